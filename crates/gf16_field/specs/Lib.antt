@@ -1,0 +1,3 @@
+pub mod Xor
+pub mod Gf16
+pub mod Column
