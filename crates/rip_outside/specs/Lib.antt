@@ -1,3 +1,4 @@
 pub mod Causes
+pub mod Counts
 pub mod Files
 pub mod Seen

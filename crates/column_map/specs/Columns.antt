@@ -1,0 +1,38 @@
+-- The columns of an image, and where a rip at an offset has their words.
+use Rattle.std.specs.Prelude.{◌≡◌, ℕ, ◌+◌, ◌-◌, ◌*◌, ◌/◌, ◌<◌, ◌≤◌, suc, ℤ, pos, negsuc, ◌≤ℤ◌}
+
+-- a stride: the words of 10 sectors, and the number of columns
+abbrev pub stride : ℕ
+stride = 11760
+
+-- A disc that can be registered has from 30 to 445,500 sectors.
+abbrev pub IsSectorCount : ℕ → Type 0
+IsSectorCount s = (30 ≤ s) × (s ≤ 445500)
+
+-- the number of words of each column: the strides of an image of s sectors, without the first and the last
+abbrev pub per_column : ℕ → ℕ
+per_column s = s / 10 - 2
+
+-- An offset counts samples, and is positive where the rip is late.
+pub record IsOffset (d : ℤ) : Type 0 where
+  pub least : negsuc 5878 ≤ℤ d
+  pub most : d ≤ℤ pos 5879
+
+-- the place i + 2 * d, at which a rip at the offset d has the registered word i
+abbrev pub moved : ℤ → ℕ → ℕ
+moved (pos d) i = i + 2 * d
+moved (negsuc d) i = i - 2 * suc d
+
+-- where a rip at the offset d has word k of column j
+abbrev pub place : ℤ → ℕ → ℕ → ℕ
+place d j k = moved d (stride + k * stride + j)
+
+-- (j, k) are the column and the number of the word at this place, of columns of c words
+pub record IsWordAt (c : ℕ) (d : ℤ) (at j k : ℕ) : Type 0 where
+  pub column : j < stride
+  pub number : k < c
+  pub here : place d j k ≡ at
+
+-- the place is that of a word of a column
+abbrev pub IsCovered : ℕ → ℤ → ℕ → Type 0
+IsCovered c d at = (j : ℕ) × (k : ℕ) × IsWordAt c d at j k

@@ -1,0 +1,4 @@
+pub mod Layout
+pub mod OneTrack
+pub mod Difference
+pub mod Toc

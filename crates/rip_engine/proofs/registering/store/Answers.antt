@@ -1,0 +1,28 @@
+use Rattle.std.proofs.Common.{◌≡◌, ◌∙◌, ℕ, List, ap, rules}
+use Rattle.std.specs.Prelude.{IfSome}
+use Rattle.rip_outside.specs.Files.{Files, bytes_at}
+use Rattle.rip_outside.proofs.FilesLaws.{if_told_weaker}
+use Rattle.column_map.specs.Columns.{per_column}
+use Rattle.syndrome_stream.specs.Parity.{image_parity}
+use Rattle.disc_toc.specs.Toc.{toc_of}
+use Rattle.wav_frames.specs.Opening.{wav_words}
+use Rattle.parity_store.specs.Record.{record_bytes_of}
+use Rattle.rip_engine.specs.Outcome.{record_of}
+use Rattle.rip_engine.specs.Texts.{registered_line}
+use Rattle.rip_engine.proofs.Leaving.{stored}
+use Rattle.rip_engine.proofs.registering.store.Goals as goal
+
+pub returns-clause-leaves : goal.returns-clause-leaves
+returns-clause-leaves g c =
+    let h0 = g.S.Shelf.held c.args.shelf.now in
+    let toc = toc_of c.args.layout in
+    let table = c.in_ok-table.table in
+    let words : Files → List ℕ = λ files. wav_words (bytes_at c.args.input.now files) c.args.wav in
+    let text : c.in_ok-text.text ≡ registered_line c.args.rec.now c.args.layout.sectors 8 = search rules in
+    let bytes : c.deref.result.now ≡ record_bytes_of toc 8 table = search rules in
+    let made : IfSome h0 (λ files. c.deref.result.now ≡ record_of 8 toc (words files)) =
+    if_told_weaker h0 (λ files. table ≡ image_parity 8 (per_column c.args.shape) (words files)) _
+    (λ files parity. bytes ∙ ap (λ rows. record_bytes_of toc 8 rows) (parity ∙ ap (λ s. image_parity 8 (per_column s) (words files)) c.requires.shape))
+    c.in_ok-table.ensures.parity in
+    stored c.args.part.now c.args.rec.now (registered_line c.args.rec.now c.args.layout.sectors 8) c.in_ok-text.text c.deref.result.now (λ files. record_of 8 toc (words files)) c.write_out.result
+    h0 _ _ c.sum_parity.ensures.same text made c.write_out.ensures.leaves

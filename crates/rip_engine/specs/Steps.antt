@@ -1,0 +1,106 @@
+-- The steps of a command: each refuses with a status, or finds what the next one goes on with.
+use Rattle.std.specs.Prelude.{◌≡◌, ℕ, List, Result, Ok, Err, Option, None, Some, is_some, nat_lt, if◌then◌else◌}
+use Rattle.std.specs.List.{list_any}
+use Rattle.std.specs.Str.{bytes_eq}
+use Rattle.std.specs.FinMap.{get}
+use Rattle.rip_outside.specs.Files.{Files}
+use Rattle.rip_outside.specs.Causes.{Rose, IsReadCall, IsWriteCall}
+use Rattle.rip_outside.specs.declared.fault.ShelfCall.{ShelfCall}
+use Rattle.wav_frames.specs.Opening.{Refusal, wav_reading, wav_words}
+use Rattle.wav_frames.specs.declared.opening.WavAt.{WavAt}
+use Rattle.disc_toc.specs.Toc.{Toc}
+use Rattle.disc_toc.specs.OneTrack.{one_track_reading}
+use Rattle.disc_toc.specs.declared.reading.LayoutKind.{LayoutKind}
+use Rattle.disc_toc.specs.declared.reading.LayoutKind.TheVariants.{TooShort}
+use Rattle.parity_store.specs.declared.storing.PutFail.{PutFail}
+use Rattle.parity_store.specs.declared.storing.PutFail.TheVariants.{WriteFault, Oom}
+use Rattle.rip_engine.specs.Command.{part_of}
+use Rattle.rip_engine.specs.declared.status.Status.{Status}
+use Rattle.rip_engine.specs.declared.status.Status.TheVariants.{Usage, Missing, WavRefused, LayoutRefused, OutExists}
+use Rattle.rip_engine.specs.declared.steps.Stop.{Stop}
+use Rattle.rip_engine.specs.declared.steps.Stop.TheVariants.{Refused, ReadFault as ReadStop, WriteFault as WriteStop, Oom as WantStop}
+
+-- ---- the steps
+
+-- the words of a WAV file, or the status by which it is refused
+abbrev pub words_read : List ℕ → List ℕ → Result WavAt Refusal → Result (List ℕ) Status
+words_read name bytes (Ok at) = Ok (wav_words bytes at)
+words_read name bytes (Err refusal) = Err (WavRefused name refusal.kind refusal.at)
+
+abbrev pub words_opened : List ℕ → Option (List ℕ) → Result (List ℕ) Status
+words_opened name None = Err (Missing name)
+words_opened name (Some bytes) = words_read name bytes (wav_reading bytes)
+
+-- the words of the rip, which is one WAV file
+abbrev pub opened : List ℕ → Files → Result (List ℕ) Status
+opened name files = words_opened name (get files name)
+
+-- parity needs 30 sectors
+abbrev pub long_enough : Result Toc LayoutKind → Result Toc Status
+long_enough (Ok toc) = if nat_lt toc.sectors 30 then Err (LayoutRefused (TooShort toc.sectors)) else Ok toc
+long_enough (Err kind) = Err (LayoutRefused kind)
+
+-- the layout of a rip of so many words, with one track that begins with it
+abbrev pub laid_out : ℕ → Result Toc Status
+laid_out count = long_enough (one_track_reading count)
+
+-- The output's name is free: it isn't held, and its part isn't one of the names that the run reads.
+abbrev pub free : List ℕ → List (List ℕ) → Files → Result (Unit {0}) Status
+free out read files =
+    if is_some (get files out) then Err (OutExists out) else (if list_any (bytes_eq (part_of out)) read then Err (OutExists (part_of out)) else Ok tt)
+
+-- ---- what a call that does a step answers
+
+-- It answers what the step finds or refuses. A fault and want of memory say nothing of the step.
+abbrev pub Does : {T A : Type 0} → (T → A) → Result T Stop → Result A Status → Type 0
+Does view (Ok found) step = step ≡ Ok (view found)
+Does view (Err (Refused status)) step = step ≡ Err status
+Does view (Err (ReadStop call)) step = Unit {0}
+Does view (Err (WriteStop call)) step = Unit {0}
+Does view (Err WantStop) step = Unit {0}
+
+-- a status by which a step refuses
+abbrev pub IsRefusal : Status → Type 0
+IsRefusal (Usage word) = Unit {0}
+IsRefusal (Missing name) = Unit {0}
+IsRefusal (WavRefused name kind at) = Unit {0}
+IsRefusal (LayoutRefused kind) = Unit {0}
+IsRefusal (OutExists name) = Unit {0}
+IsRefusal _ = ⊥
+
+-- a fault is passed on only where its own count rose
+abbrev pub StopsWithCause : {T : Type 0} → (ShelfCall → ℕ) → (ShelfCall → ℕ) → Result T Stop → Type 0
+StopsWithCause before now (Ok found) = Unit {0}
+StopsWithCause before now (Err (Refused status)) = IsRefusal status
+StopsWithCause before now (Err (ReadStop call)) = IsReadCall call × Rose (before call) (now call)
+StopsWithCause before now (Err (WriteStop call)) = IsWriteCall call × Rose (before call) (now call)
+StopsWithCause before now (Err WantStop) = Unit {0}
+
+-- a call that only reads: it stops for no fault of writing
+abbrev pub ReadsWithCause : {T : Type 0} → (ShelfCall → ℕ) → (ShelfCall → ℕ) → Result T Stop → Type 0
+ReadsWithCause before now (Ok found) = Unit {0}
+ReadsWithCause before now (Err (Refused status)) = IsRefusal status
+ReadsWithCause before now (Err (ReadStop call)) = IsReadCall call × Rose (before call) (now call)
+ReadsWithCause before now (Err (WriteStop call)) = ⊥
+ReadsWithCause before now (Err WantStop) = Unit {0}
+
+-- a call past the last refusal: it stops for a fault of reading or want of memory alone
+abbrev pub OnlyReads : {T : Type 0} → (ShelfCall → ℕ) → (ShelfCall → ℕ) → Result T Stop → Type 0
+OnlyReads before now (Ok found) = Unit {0}
+OnlyReads before now (Err (Refused status)) = ⊥
+OnlyReads before now (Err (ReadStop call)) = IsReadCall call × Rose (before call) (now call)
+OnlyReads before now (Err (WriteStop call)) = ⊥
+OnlyReads before now (Err WantStop) = Unit {0}
+
+-- a call that makes no call of the shelf: it stops for a refusal or want of memory alone
+abbrev pub OnlyRefuses : {T : Type 0} → Result T Stop → Type 0
+OnlyRefuses (Ok found) = Unit {0}
+OnlyRefuses (Err (Refused status)) = IsRefusal status
+OnlyRefuses (Err (ReadStop call)) = ⊥
+OnlyRefuses (Err (WriteStop call)) = ⊥
+OnlyRefuses (Err WantStop) = Unit {0}
+
+-- how a put's failure is passed on
+abbrev pub stop_of : PutFail → Stop
+stop_of (WriteFault call) = WriteStop call
+stop_of Oom = WantStop

@@ -1,0 +1,16 @@
+//! All that the program does, over a folder of named files and an output.
+#![tactic(auto)]
+
+mod reading;
+mod registering;
+mod running;
+mod status;
+mod steps;
+mod words;
+
+pub use reading::sum_parity;
+pub use registering::register;
+pub use running::run;
+pub use status::{Status, refusal_text, registered_text};
+pub use steps::{Stop, check_free, lay_out, open_input, part_name, write_out};
+pub use words::{Command, WordsFail, read_words};

@@ -1,0 +1,4 @@
+pub mod FoldSteps
+pub mod ParityLaws
+pub mod RowLaws
+pub mod StandsLaws

@@ -1,0 +1,3 @@
+pub mod Parity
+pub mod Registers
+pub mod Rows

@@ -1,0 +1,11 @@
+//! The parity of an audio image: the syndromes of its columns, from words that come in pieces of any length.
+#![tactic(auto)]
+
+mod fold;
+mod registers;
+mod table;
+#[cfg(test)]
+mod tests;
+
+pub use registers::Registers;
+pub use table::Table;

@@ -1,0 +1,73 @@
+// Parities that were worked out by hand.
+ghost use Rattle.std.specs.Prelude.{◌≡◌, ◌*◌, ◌≤◌, IfOk, length, vec_len};
+
+use crate::{Registers, Table};
+use column_map::Shape;
+use rip_outside::Oom;
+use std::alloc::{AllocError, Global};
+use std::test::Fail;
+
+// An image of zeros but for the word 1 at a place.
+fn one_word(alloc: Global, count: usize, place: usize) -> Result<Vec<u16>, AllocError>
+    ensures { IfOk result (λ words. vec_len words ≡ count) }
+{
+    let mut words = Vec::new(alloc);
+    for i in 0..count {
+        words.push(u16::from(i == place))?;
+    }
+    Ok(words)
+}
+
+// An image whose sample n has n mod 65536 as both of its words.
+fn ramp(alloc: Global, count: usize) -> Result<Vec<u16>, AllocError>
+    ensures { IfOk result (λ words. vec_len words ≡ count) }
+{
+    let mut words = Vec::new(alloc);
+    for i in 0..count {
+        words.push((i / 2 % 65_536) as u16)?;
+    }
+    Ok(words)
+}
+
+// The parity of an image, whose words come in two pieces.
+fn parity<const P: usize>(alloc: Global, shape: Shape, words: &[u16]) -> Result<Table<P>, Oom>
+    requires size { P ≤ 32 }
+    requires whole { length words.now ≡ 1176 * shape }
+{
+    let mut registers = Registers::new(alloc, shape)?;
+    let (front, back) = words.split_at(words.len() / 3);
+    registers.absorb(front);
+    registers.absorb(back);
+    Ok(registers.finish())
+}
+
+#[test]
+fn worked_parities(rt: HostRuntime) -> Result<(), Fail> {
+    let alloc = rt.alloc();
+    let zero = Table::<4>::zero(alloc)?;
+    assert_eq!(rt; zero.row(11_759), [0; 4]);
+
+    let wide = Shape::of(109).expect(&rt, "a shape");
+    assert_eq!(rt; wide.per_column(), 8);
+    assert_eq!(rt; wide.covered(0, 11_759), None);
+    assert_eq!(rt; wide.covered(0, 105_839), Some((11_759, 7)));
+    assert_eq!(rt; wide.covered(0, 105_840), None);
+
+    let short = Shape::of(30).expect(&rt, "a shape");
+    let table = parity::<8>(alloc, short, &ramp(alloc, 35_280)?)?;
+    for j in 0..11_760u32 {
+        assert_eq!(rt; table.row(j), [(5_880 + j / 2) as u16; 8]);
+    }
+
+    let shape = Shape::of(100).expect(&rt, "a shape");
+    let last = parity::<8>(alloc, shape, &one_word(alloc, 117_600, 94_080 + 5)?)?;
+    assert_eq!(rt; last.row(4), [0; 8]);
+    assert_eq!(rt; last.row(5), [1; 8]);
+    let earlier = one_word(alloc, 117_600, 82_320 + 5)?;
+    assert_eq!(rt;
+        parity::<8>(alloc, shape, &earlier)?.row(5),
+        [1, 2, 4, 8, 16, 32, 64, 128]
+    );
+    assert_eq!(rt; parity::<4>(alloc, shape, &earlier)?.row(5), [1, 2, 4, 8]);
+    Ok(())
+}
