@@ -3,6 +3,10 @@ pub mod FieldLaws
 pub mod Computed
 pub mod ProductLaws
 pub mod PowerLaws
+pub mod Pigeonhole
 pub mod Walk
 pub mod CodeSteps
 pub mod ColumnLaws
+pub mod TableSteps
+pub mod SumLaws
+pub mod PowerRules

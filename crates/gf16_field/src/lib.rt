@@ -1,22 +1,30 @@
-//! The field of 65,536 words.
+//! GF(2^16), the field of 65,536 words: polynomials over GF(2) of degree below 16, modulo
+//! `x^16 + x^12 + x^3 + x + 1`, which is 0x1100B. A word's bits are its coefficients, the sum is the
+//! exclusive or, and α is 2.
 #![tactic(auto)]
+
+#[cfg(test)]
+mod table_rows;
+mod tables;
 
 ghost use Rattle.std.specs.Prelude.{◌≡◌, ◌≢◌, ℕ, ◌+◌, ◌*◌, ◌^◌, ◌<◌, ◌≤◌, ◌↔◌, IsSome, IsNone, IfSome, IfNone};
 ghost use Rattle.gf16_field.specs.Xor.{◌⊕◌};
 ghost use Rattle.gf16_field.specs.Gf16.{◌⊗◌, IsProduct, alpha_power, doubled, power};
 
+pub use tables::Tables;
+
 /// A word of the field.
 #[derive(Clone, Copy, PartialEq, Eq, Debug)]
 pub struct Gf(pub u16);
 
-/// The sum of two words.
+/// The sum of two words: their exclusive or.
 pub fn add(a: Gf, b: Gf) -> Gf
     ensures { result.0 ≡ a.0 ⊕ b.0 }
 {
     Gf(a.0 ^ b.0)
 }
 
-/// Twice a word.
+/// α times a word.
 pub fn double(a: Gf) -> Gf
     ensures { result.0 ≡ 2 ⊗ a.0 }
 {
@@ -44,7 +52,7 @@ pub fn mul(a: Gf, b: Gf) -> Gf
     sum
 }
 
-/// 2 taken n times.
+/// α taken `n` times.
 pub fn pow_alpha(n: u32) -> Gf
     ensures { result.0 ≡ alpha_power n }
 {
@@ -61,7 +69,7 @@ pub fn pow_alpha(n: u32) -> Gf
     answer
 }
 
-/// The word whose product with `a` is 1.
+/// The word whose product with `a` is 1, and None exactly for 0.
 pub fn inverse(a: Gf) -> Option<Gf>
     ensures zero { IsNone result ↔ (a.0 ≡ 0) }
     ensures back { IfSome result (λ b. a.0 ⊗ b.0 ≡ 1) }
@@ -78,30 +86,63 @@ pub fn inverse(a: Gf) -> Option<Gf>
     Some(answer)
 }
 
-/// The laws of the field: what every caller may count on.
+/// The laws of the field, each a clause: the exclusive or makes the words a commutative group in which each
+/// word is its own opposite; the product is commutative, associative and distributive, has the unit 1, no zero
+/// divisors, and an inverse of each word but 0; α has the order 65,535, so each word but 0 is one power of it;
+/// squaring is additive, and a word taken 65,536 times is itself.
 pub fn laws()
     ensures product { (a b r : ℕ) → a < 2 ^ 16 → IsProduct a b r ↔ (r ≡ a ⊗ b) }
+    ensures sum_word { (a b : ℕ) → a < 2 ^ 16 → b < 2 ^ 16 → a ⊕ b < 2 ^ 16 }
+    ensures sum_comm { (a b : ℕ) → a ⊕ b ≡ b ⊕ a }
+    ensures sum_assoc { (a b c : ℕ) → (a ⊕ b) ⊕ c ≡ a ⊕ (b ⊕ c) }
+    ensures sum_zero { (a : ℕ) → a ⊕ 0 ≡ a }
+    ensures sum_self { (a : ℕ) → a ⊕ a ≡ 0 }
     ensures comm { (a b : ℕ) → a < 2 ^ 16 → b < 2 ^ 16 → a ⊗ b ≡ b ⊗ a }
     ensures assoc { (a b c : ℕ) → a < 2 ^ 16 → b < 2 ^ 16 → c < 2 ^ 16 → (a ⊗ b) ⊗ c ≡ a ⊗ (b ⊗ c) }
-    ensures sums { (a b c : ℕ) → a ⊗ (b ⊕ c) ≡ (a ⊗ b) ⊕ (a ⊗ c) }
+    ensures sums { (a b c : ℕ) → a ⊗ (b ⊕ c) ≡ a ⊗ b ⊕ a ⊗ c }
     ensures unit { (a : ℕ) → a < 2 ^ 16 → 1 ⊗ a ≡ a }
+    ensures divisors { (a b : ℕ) → a < 2 ^ 16 → b < 2 ^ 16 → a ⊗ b ≡ 0 → a ≢ 0 → b ≡ 0 }
     ensures back { (a : ℕ) → a < 2 ^ 16 → a ≢ 0 → a ⊗ power a 65534 ≡ 1 }
-    ensures order { (i j : ℕ) → i < 65535 → j < 65535 → alpha_power i ≡ alpha_power j → i ≡ j }
+    ensures order { alpha_power 65535 ≡ 1 }
+    ensures apart { (i j : ℕ) → i < 65535 → j < 65535 → alpha_power i ≡ alpha_power j → i ≡ j }
     ensures all { (a : ℕ) → a < 2 ^ 16 → a ≢ 0 → (i : ℕ) × (i < 65535) × (alpha_power i ≡ a) }
+    ensures squares { (a b : ℕ) → a < 2 ^ 16 → b < 2 ^ 16 → (a ⊕ b) ⊗ (a ⊕ b) ≡ a ⊗ a ⊕ b ⊗ b }
+    ensures frobenius { (a : ℕ) → a < 2 ^ 16 → power a 65536 ≡ a }
 {}
 
 #[cfg(test)]
 mod tests {
+    use super::table_rows::{INVERSES, PRODUCTS};
     use super::*;
+    use std::process::Abort;
+    use std::test::Fail;
 
     #[test]
-    fn worked_row(rt: HostRuntime) {
-        assert_eq!(rt; mul(Gf(2), Gf(0x8000)), Gf(0x100B));
-        assert_eq!(rt; mul(Gf(2), Gf(0x8805)), Gf(1));
-        assert_eq!(rt; mul(Gf(3), Gf(3)), Gf(5));
-        assert_eq!(rt; inverse(Gf(0)), None);
-        assert_eq!(rt; inverse(Gf(2)), Some(Gf(0x8805)));
-        assert_eq!(rt; pow_alpha(16), Gf(0x100B));
-        assert_eq!(rt; pow_alpha(65_535), Gf(1));
+    fn worked_cases(rt: HostRuntime) {
+        assert!(rt; inverse(Gf(0)) == None);
+        assert!(rt; pow_alpha(16) == Gf(0x100B));
+        assert!(rt; pow_alpha(65_535) == Gf(1));
+    }
+
+    fn assert_products(rt: &impl Abort, tables: &Tables, rows: &[(u16, u16, u16)]) {
+        for row in rows {
+            assert!(rt; mul(Gf(row.0), Gf(row.1)) == Gf(row.2));
+            assert!(rt; tables.mul(Gf(row.0), Gf(row.1)) == Gf(row.2));
+        }
+    }
+
+    fn assert_inverses(rt: &impl Abort, tables: &Tables, rows: &[(u16, u16)]) {
+        for row in rows {
+            assert!(rt; inverse(Gf(row.0)) == Some(Gf(row.1)));
+            assert!(rt; tables.inverse(Gf(row.0)) == Some(Gf(row.1)));
+        }
+    }
+
+    #[test]
+    fn products_and_inverses_by_shifts(rt: HostRuntime) -> Result<(), Fail> {
+        let tables = Tables::new(rt.alloc())?;
+        assert_products(&rt, &tables, &PRODUCTS);
+        assert_inverses(&rt, &tables, &INVERSES);
+        Ok(())
     }
 }

@@ -1,13 +1,18 @@
 -- What a run answers, prints and leaves.
-use Rattle.std.specs.Prelude.{◌≡◌, ◌⊎◌, ℕ, List, ◌++◌, take, Result, Ok, Err, Option, Some, IfSome, IsSome}
+use Rattle.std.specs.Prelude.{◌≡◌, ◌⊎◌, ℕ, List, ◌++◌, length, take, Result, Ok, Err, Option, None, Some, IfSome, IsSome}
 use Rattle.std.specs.Option.{option_map}
-use Rattle.rip_outside.specs.Files.{IfTold}
+use Rattle.std.specs.FinMap.{get}
+use Rattle.rip_outside.specs.Files.{Files, IfTold}
 use Rattle.rip_outside.specs.Causes.{Rose, IsReadCall, IsWriteCall}
 use Rattle.rip_outside.specs.Seen.{Seen}
 use Rattle.rip_outside.specs.declared.fault.ShelfCall.{ShelfCall}
-use Rattle.rip_engine.specs.Outcome.{Outcome, IsOutcomeOf, written_by, SameButPart, SameButOutput}
-use Rattle.rip_engine.specs.Texts.{refusal_line, read_fault_line, write_fault_line}
+use Rattle.disc_toc.specs.Toc.{Toc}
+use Rattle.rip_engine.specs.Command.{part_of}
+use Rattle.rip_engine.specs.Steps.{opened, laid_out}
+use Rattle.rip_engine.specs.Outcome.{Outcome, record_of, IsOutcomeOf, written_by, SameButPart, SameButOutput}
+use Rattle.rip_engine.specs.Texts.{registered_line, refusal_line, read_fault_line, write_fault_line}
 use Rattle.rip_engine.specs.declared.words.Command.{Command}
+use Rattle.rip_engine.specs.declared.words.Command.TheVariants.{Register}
 use Rattle.rip_engine.specs.declared.status.Status.{Status}
 use Rattle.rip_engine.specs.declared.status.Status.TheVariants.{Done, ReadFault, WriteFault, SinkFault, WantOfMemory}
 use Rattle.rip_engine.specs.declared.steps.Stop.{Stop}
@@ -118,3 +123,18 @@ abbrev pub Completes : Result Command ℕ → Seen → Seen → Status → Type 
 Completes read before after status =
     ((call : ShelfCall) → Rose (before.faults call) (after.faults call) → ⊥) → (Rose before.sink_faults after.sink_faults → ⊥) →
     (status ≡ WantOfMemory) ⊎ IfSome before.held (λ files. (outcome : Outcome) × IsOutcomeOf read files outcome × (outcome.status ≡ status))
+
+-- What `register` stores when it is done: the record's name holds the record of the rip, which is its layout and the parity of its
+-- words; the part isn't held; and the text went out.
+pub record Stored (input rec : List ℕ) (files now : Files) (text : List ℕ) : Type 0 where
+  pub words : List ℕ
+  pub toc : Toc
+  pub opens : opened input files ≡ Ok words
+  pub lays_out : laid_out (length words) ≡ Ok toc
+  pub holds : get now rec ≡ Some (record_of 8 toc words)
+  pub part_gone : get now (part_of rec) ≡ None
+  pub prints : text ≡ registered_line rec toc.sectors 8
+
+abbrev pub StoresParity : Result Command ℕ → Seen → Seen → Status → Type 0
+StoresParity read before after status = (input rec : List ℕ) → read ≡ Ok (Register input rec) → status ≡ Done →
+    IfSome before.held (λ files. (now : Files) × (text : List ℕ) × (after.held ≡ Some now) × Wrote text before.told after.told × Stored input rec files now text)

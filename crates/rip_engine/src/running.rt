@@ -4,7 +4,7 @@ ghost use Rattle.rip_outside.specs.Seen.{seen};
 ghost use Rattle.rip_engine.specs.Command.{texts, command_reading};
 ghost use Rattle.rip_engine.specs.Steps.{StopsWithCause};
 ghost use Rattle.rip_engine.specs.Outcome.{IsOutcomeOf, Leaves, written_by};
-ghost use Rattle.rip_engine.specs.Run.{FaultsOfCommand, Reported, Concluded, OutcomeDecides, ReadFaultHasCause, WriteFaultHasCause, SinkFaultHasCause, WantOfMemoryKeeps, NothingWritten, Completes};
+ghost use Rattle.rip_engine.specs.Run.{FaultsOfCommand, Reported, Concluded, OutcomeDecides, ReadFaultHasCause, WriteFaultHasCause, SinkFaultHasCause, WantOfMemoryKeeps, NothingWritten, Completes, StoresParity};
 
 use crate::{Command, Status, Stop, WordsFail, read_words, refusal_text, register};
 use rip_outside::{Shelf, Sink, Text};
@@ -59,6 +59,7 @@ fn conclude<K: Sink>(alloc: Global, out: &mut K, performed: Result<Text, Stop>) 
 /// to the output in one call and answers a status. The names of files are used as they stand in the words.
 pub fn run<F: Shelf, K: Sink>(alloc: Global, words: &[String], files: &mut F, out: &mut K) -> Status
     ensures outcome { OutcomeDecides (command_reading (texts words.now)) (seen F.Shelf K.Sink files.old out.old) (seen F.Shelf K.Sink files.new out.new) result }
+    ensures stores { StoresParity (command_reading (texts words.now)) (seen F.Shelf K.Sink files.old out.old) (seen F.Shelf K.Sink files.new out.new) result }
     ensures read_fault { ReadFaultHasCause (command_reading (texts words.now)) (seen F.Shelf K.Sink files.old out.old) (seen F.Shelf K.Sink files.new out.new) result }
     ensures write_fault { WriteFaultHasCause (command_reading (texts words.now)) (seen F.Shelf K.Sink files.old out.old) (seen F.Shelf K.Sink files.new out.new) result }
     ensures sink_fault { SinkFaultHasCause (command_reading (texts words.now)) (seen F.Shelf K.Sink files.old out.old) (seen F.Shelf K.Sink files.new out.new) result }

@@ -1,6 +1,6 @@
 // Named files in memory.
 ghost use Rattle.std.specs.Prelude.{◌≡◌, ◌≢◌, ◌+◌, ◌≤◌, length, slice_range, OnOk, OnErr};
-ghost use Rattle.std.specs.Option.{option_map};
+ghost use Rattle.std.specs.Option.{option_copied, option_map};
 ghost use Rattle.std.specs.FinMap.{get, empty};
 ghost use Rattle.rip_outside.specs.Files.{IsHeld, bytes_at, after_make, after_append, after_rename};
 
@@ -51,6 +51,16 @@ impl FileTable {
         ensures { result ≡ option_map length (get self.now name.now) }
     {
         self.files.get(name).map(|bytes| bytes.len() as u64)
+    }
+
+    /// The bytes of a file, or None where there is none of this name.
+    pub fn bytes(&self, name: &str) -> Option<&[u8]>
+        ensures { option_copied result ≡ get self.now name.now }
+    {
+        match self.files.get(name) {
+            Some(bytes) => Some(bytes.as_slice()),
+            None => None,
+        }
     }
 
     /// Fills the buffer with the file's bytes from a place on.

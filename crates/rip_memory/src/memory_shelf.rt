@@ -1,7 +1,7 @@
 // A shelf in memory, whose calls fail where they were listed to fail.
 ghost use Rattle.std.specs.Prelude.{◌≡◌, ◌≢◌, ◌+◌, ◌↔◌, ◌≤◌, ◌++◌, ◌∷◌, [], ℕ, length, false, slice_range, IsTrue, IfOk, OnOk, OnErr, IsErr, IsErrOf, Some, if◌then◌else◌};
 ghost use Rattle.std.specs.FinMap.{empty, get};
-ghost use Rattle.std.specs.Option.{option_map};
+ghost use Rattle.std.specs.Option.{option_copied, option_map};
 ghost use Rattle.rip_outside.specs.Counts.{count_of, raised};
 ghost use Rattle.rip_outside.specs.Causes.{HasCause};
 ghost use Rattle.rip_memory.specs.Listed.{is_due, counted_down};
@@ -91,6 +91,13 @@ impl MemoryShelf {
             Ok(()) => Ok(()),
             Err(_) => Err(Oom),
         }
+    }
+
+    /// The bytes of a file, or None exactly where the name isn't held. It is no call of the shelf, and counts nothing.
+    pub fn bytes(&self, name: &str) -> Option<&[u8]>
+        ensures { option_copied result ≡ get self.now.files name.now }
+    {
+        self.files.bytes(name)
     }
 
     /// How many bytes were handed out so far. It takes no memory.

@@ -1,11 +1,17 @@
 use Rattle.rip_outside.specs.Seen.{seen}
 use Rattle.rip_engine.specs.Command.{command_reading, texts}
+use Rattle.rip_engine.proofs.StoredLaws.{stored_by}
 use Rattle.rip_engine.proofs.Ending.{decides, read_has_cause, write_has_cause, sink_has_cause, memory_keeps, nothing_written, completes}
 use Rattle.rip_engine.proofs.running.run.Goals as goal
 
 pub returns-clause-outcome : goal.returns-clause-outcome
 returns-clause-outcome g c = decides (command_reading (texts c.args.words.now)) (seen g.F.Shelf g.K.Sink c.args.files.now c.args.out.now) (seen g.F.Shelf g.K.Sink c.perform-performed.new.shelf c.conclude.new.out) c.conclude.result c.perform-performed.result
     (record { leaves = c.perform-performed.ensures.leaves; cause = c.perform-performed.ensures.cause; reads = c.perform-performed.ensures.reads; concluded = c.conclude.ensures })
+
+pub returns-clause-stores : goal.returns-clause-stores
+returns-clause-stores g c = stored_by (command_reading (texts c.args.words.now)) (seen g.F.Shelf g.K.Sink c.args.files.now c.args.out.now) (seen g.F.Shelf g.K.Sink c.perform-performed.new.shelf c.conclude.new.out) c.conclude.result
+    (decides (command_reading (texts c.args.words.now)) (seen g.F.Shelf g.K.Sink c.args.files.now c.args.out.now) (seen g.F.Shelf g.K.Sink c.perform-performed.new.shelf c.conclude.new.out) c.conclude.result c.perform-performed.result
+    (record { leaves = c.perform-performed.ensures.leaves; cause = c.perform-performed.ensures.cause; reads = c.perform-performed.ensures.reads; concluded = c.conclude.ensures }))
 
 pub returns-clause-read_fault : goal.returns-clause-read_fault
 returns-clause-read_fault g c = read_has_cause (command_reading (texts c.args.words.now)) (seen g.F.Shelf g.K.Sink c.args.files.now c.args.out.now) (seen g.F.Shelf g.K.Sink c.perform-performed.new.shelf c.conclude.new.out) c.conclude.result c.perform-performed.result

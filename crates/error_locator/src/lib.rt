@@ -1,0 +1,341 @@
+//! The shortest register that generates syndromes, and the places that it tells.
+#![tactic(auto)]
+
+ghost use Rattle.std.specs.Prelude.{◌≡◌, ◌≢◌, ℕ, ◌+◌, ◌<◌, ◌≤◌, ◌↔◌, ◌⊎◌, IfSome, IsNone, slice_index};
+ghost use Rattle.gf16_field.specs.Xor.{◌⊕◌, xor_below};
+ghost use Rattle.gf16_field.specs.Gf16.{◌⊗◌, alpha_power};
+ghost use Rattle.gf16_poly.specs.Register.{AllWords, Generates, locator, with_one};
+ghost use Rattle.error_locator.specs.Flips.{AreFlips, HaveSyndromes, locator_of};
+ghost use Rattle.error_locator.specs.Roots.{AreRoots, HasAllRoots};
+ghost use Rattle.error_locator.specs.Search.{IsSearch, adjusted, shifted};
+ghost use Rattle.error_locator.specs.Shortest.{IsShortest};
+ghost use Rattle.error_locator.specs.Walk.{AreTerms, IsWalk, inverse_at};
+
+use gf16_field::{Gf, Tables, add, double, pow_alpha};
+use gf16_poly::{Register, are_words, discrepancy};
+
+/// Coefficient `i` of an older register, shifted and times a factor.
+fn term<const P: usize>(field: &Tables, old: &[u16; P], shift: usize, factor: Gf, i: usize) -> Gf
+    requires { i < P }
+    ensures { result.0 ≡ shifted shift factor.0 (λ i. slice_index old.now i) i }
+{
+    if i + 1 < shift {
+        Gf(0)
+    } else if i + 1 == shift {
+        factor
+    } else {
+        field.mul(factor, Gf(old[i - shift]))
+    }
+}
+
+/// The coefficients with those of an older register, shifted and times a factor, added.
+fn adjust<const P: usize>(
+    field: &Tables,
+    coef: &[u16; P],
+    old: &[u16; P],
+    shift: usize,
+    factor: Gf,
+) -> [u16; P]
+    ensures inside { (i : ℕ) → i < P → slice_index result i ≡ adjusted shift factor.0 (λ i. slice_index coef.now i) (λ i. slice_index old.now i) i }
+    ensures outside { (i : ℕ) → P ≤ i → slice_index result i ≡ 0 }
+{
+    let mut next = *coef;
+    for i in 0..P {
+        next[i] = add(Gf(coef[i]), term(field, old, shift, factor, i)).0;
+    }
+    next
+}
+
+/// The word whose product with `a`, which isn't 0, is 1.
+pub fn inverse_of(field: &Tables, a: Gf) -> Gf
+    requires { a.0 ≢ 0 }
+    ensures { a.0 ⊗ result.0 ≡ 1 }
+{
+    match field.inverse(a) {
+        Some(b) => b,
+        None => unreachable!(),
+    }
+}
+
+/// Where the search for the shortest register stands: the shortest one for the words so far, and the last shorter
+/// one, which missed a word by `old_miss`, `shift` words ago.
+#[derive(Clone, Copy)]
+struct Search<const P: usize> {
+    len: usize,
+    coef: [u16; P],
+    old_len: usize,
+    old: [u16; P],
+    old_miss: Gf,
+    shift: usize,
+}
+
+/// One word more.
+fn step<const P: usize>(field: &Tables, search: Search<P>, s: &[u16; P], n: usize) -> Search<P>
+    requires inside { n < P }
+    requires now { IsSearch n search.len search.old_len search.shift search.old_miss.0 (λ i. slice_index search.coef i) (λ i. slice_index search.old i) (λ i. slice_index s.now i) }
+    ensures { IsSearch (n + 1) result.len result.old_len result.shift result.old_miss.0 (λ i. slice_index result.coef i) (λ i. slice_index result.old i) (λ i. slice_index s.now i) }
+{
+    let Search {
+        len,
+        coef,
+        old_len,
+        old,
+        old_miss,
+        shift,
+    } = search;
+    let missed = discrepancy(field, &coef, len, s, n);
+    if missed.0 == 0 {
+        return Search {
+            len,
+            coef,
+            old_len,
+            old,
+            old_miss,
+            shift: shift + 1,
+        };
+    }
+    let factor = field.mul(missed, inverse_of(field, old_miss));
+    let next = adjust(field, &coef, &old, shift, factor);
+    if 2 * len <= n {
+        Search {
+            len: n + 1 - len,
+            coef: next,
+            old_len: len,
+            old: coef,
+            old_miss: missed,
+            shift: 1,
+        }
+    } else {
+        Search {
+            len,
+            coef: next,
+            old_len,
+            old,
+            old_miss,
+            shift: shift + 1,
+        }
+    }
+}
+
+/// The shortest register that generates `s`, and the only one of its length where twice that is at most `P`.
+/// Where `s` are the syndromes of at most `P / 2` flips in a column of `c` words, it has one coefficient for each
+/// flip, and its polynomial is the product of `1 + α^(c - 1 - k) x` over their places `k`. It takes no memory.
+pub fn locate<const P: usize>(field: &Tables, s: [u16; P]) -> Register<P>
+    requires { P ≤ 32 }
+    ensures shortest { IsShortest P result.len (λ i. slice_index result.coef i) (λ i. slice_index s.entry i) }
+    ensures only { result.len + result.len ≤ P → (d : ℕ → ℕ) → AllWords d → Generates P result.len d (λ i. slice_index s.entry i)
+        → (i : ℕ) → i < result.len → d i ≡ slice_index result.coef i }
+    ensures flips { (c e : ℕ) (k flip : ℕ → ℕ) → c ≤ 65535 → e + e ≤ P → AreFlips c e k flip → HaveSyndromes P c e k flip (λ i. slice_index s.entry i)
+        → (result.len ≡ e) × ((i : ℕ) → with_one (λ i. slice_index result.coef i) i ≡ locator e (λ i. locator_of c (k i)) i) }
+{
+    are_words(&s);
+    let coef = [0; P];
+    let old = [0; P];
+    let mut search = Search {
+        len: 0,
+        coef,
+        old_len: 0,
+        old,
+        old_miss: Gf(1),
+        shift: 1,
+    };
+    for n in 0..P {
+        search = step(field, search, &s, n);
+    }
+    let Search { len, coef, .. } = search;
+    Register { len, coef }
+}
+
+/// Places in a column, rising.
+#[derive(Clone, Copy)]
+pub struct Places<const P: usize> {
+    pub count: usize,
+    pub k: [u16; P],
+    ghost fits: { count ≤ P },
+}
+
+/// The terms of the register's polynomial at `y`, but for its 1.
+fn terms_at<const P: usize>(field: &Tables, coef: &[u16; P], len: usize, y: Gf) -> [u16; P]
+    requires { len ≤ P }
+    ensures { AreTerms len (λ i. slice_index coef.now i) y.0 (λ i. slice_index result i) }
+{
+    let mut terms = *coef;
+    let mut power = y;
+    for i in 0..len {
+        terms[i] = field.mul(Gf(coef[i]), power).0;
+        power = field.mul(y, power);
+    }
+    terms
+}
+
+/// The terms at the next place: each times its own power of α.
+fn advance<const P: usize>(field: &Tables, terms: &[u16; P], len: usize) -> [u16; P]
+    requires { len ≤ P }
+    ensures { (i : ℕ) → i < len → slice_index result i ≡ slice_index terms.now i ⊗ alpha_power (i + 1) }
+{
+    let mut next = *terms;
+    let mut alpha = Gf(2);
+    for i in 0..len {
+        next[i] = field.mul(Gf(terms[i]), alpha).0;
+        alpha = double(alpha);
+    }
+    next
+}
+
+/// 1 and the first `len` terms, added.
+fn sum<const P: usize>(terms: &[u16; P], len: usize) -> Gf
+    requires { len ≤ P }
+    ensures { result.0 ≡ 1 ⊕ xor_below len (λ i. slice_index terms.now i) }
+{
+    let mut sum = Gf(1);
+    for i in 0..len {
+        sum = add(sum, Gf(terms[i]));
+    }
+    sum
+}
+
+/// Where the walk over the places of a column stands: the roots so far, and the polynomial's terms at the place.
+#[derive(Clone, Copy)]
+struct Walk<const P: usize> {
+    count: usize,
+    k: [u16; P],
+    terms: [u16; P],
+}
+
+/// One place more.
+fn visit<const P: usize>(
+    field: &Tables,
+    r: &Register<P>,
+    c: u32,
+    walk: Walk<P>,
+    place: u32,
+) -> Walk<P>
+    requires column { c ≤ 44548 }
+    requires inside { place < c }
+    requires room { walk.count < r.now.len }
+    requires now { IsWalk r.now.len (λ i. slice_index r.now.coef i) c place walk.count (λ i. slice_index walk.k i) (λ i. slice_index walk.terms i) }
+    ensures { IsWalk r.now.len (λ i. slice_index r.now.coef i) c (place + 1) result.count (λ i. slice_index result.k i) (λ i. slice_index result.terms i) }
+{
+    are_words(&r.coef);
+    let Walk { count, k, terms } = walk;
+    let next = advance(field, &terms, r.len);
+    if sum(&terms, r.len).0 != 0 {
+        return Walk {
+            count,
+            k,
+            terms: next,
+        };
+    }
+    let mut more = k;
+    more[count] = place as u16;
+    Walk {
+        count: count + 1,
+        k: more,
+        terms: next,
+    }
+}
+
+/// The places of a column of `c` words, rising, at which the register's polynomial is 0: those `k` where it is 0 at
+/// the inverse of `α^(c - 1 - k)`. None exactly where there are fewer than the register's length, or where that is
+/// above `P / 2`. It takes no memory.
+pub fn roots<const P: usize>(field: &Tables, r: &Register<P>, c: u32) -> Option<Places<P>>
+    requires size { P ≤ 32 }
+    requires some { 0 < c }
+    requires column { c ≤ 44548 }
+    ensures count { IfSome result (λ places. places.count ≡ r.now.len) }
+    ensures half { IfSome result (λ places. r.now.len + r.now.len ≤ P) }
+    ensures roots { IfSome result (λ places. AreRoots r.now.len (λ i. slice_index r.now.coef i) c places.count (λ i. slice_index places.k i)) }
+    ensures all { IfSome result (λ places. HasAllRoots r.now.len (λ i. slice_index r.now.coef i) c places.count (λ i. slice_index places.k i)) }
+    ensures none { IsNone result ↔ ((P < r.now.len + r.now.len) ⊎ ((n : ℕ) (k : ℕ → ℕ) → AreRoots r.now.len (λ i. slice_index r.now.coef i) c n k → n < r.now.len)) }
+{
+    if 2 * r.len > P {
+        return None;
+    }
+    are_words(&r.coef);
+    let k = [0; P];
+    let terms = terms_at(field, &r.coef, r.len, pow_alpha(65_536 - c));
+    let mut walk = Walk { count: 0, k, terms };
+    let mut place = 0;
+    while place < c && walk.count < r.len {
+        walk = visit(field, r, c, walk, place);
+        place += 1;
+    }
+    let Walk { count, k, .. } = walk;
+    if count < r.len {
+        return None;
+    }
+    Some(Places { count, k })
+}
+
+#[cfg(test)]
+mod tests {
+    use super::*;
+    use gf16_poly::{eval, generates, times};
+    use std::process::Abort;
+    use std::test::Fail;
+
+    fn assert_located(rt: &impl Abort, field: &Tables, s: [u16; 4], len: usize, coef: [u16; 4]) {
+        let register = locate(field, s);
+        assert!(rt; register.len == len);
+        assert!(rt; register.coef == coef);
+    }
+
+    #[test]
+    fn registers_of_four_words(rt: HostRuntime) -> Result<(), Fail> {
+        let field = Tables::new(rt.alloc())?;
+        assert_located(&rt, &field, [0, 0, 0, 0], 0, [0, 0, 0, 0]);
+        assert_located(&rt, &field, [1, 1, 1, 1], 1, [1, 0, 0, 0]);
+        assert_located(&rt, &field, [1, 2, 4, 8], 1, [2, 0, 0, 0]);
+        assert_located(&rt, &field, [0, 3, 5, 9], 2, [3, 2, 0, 0]);
+        assert_located(&rt, &field, [1, 0, 0, 0], 1, [0, 0, 0, 0]);
+        assert!(rt; locate(&field, [0u16, 0, 0, 1]).len == 4);
+        Ok(())
+    }
+
+    fn assert_one_place<const P: usize>(rt: &impl Abort, places: Option<Places<P>>, place: u16)
+        requires { 0 < P }
+    {
+        if let Some(found) = places {
+            assert!(rt; found.count == 1);
+            assert!(rt; found.k[0] == place);
+        } else {
+            assert!(rt; false);
+        }
+    }
+
+    fn assert_last_word<const P: usize>(rt: &impl Abort, field: &Tables)
+        requires some { 0 < P }
+        requires size { P ≤ 32 }
+    {
+        let ones = [1u16; P];
+        let register = locate(field, ones);
+        assert!(rt; generates(field, &register, &ones));
+        assert!(rt; eval(field, &register, Gf(1)) == Gf(0));
+        assert!(rt; times(field, &ones, &register)[0] == 1);
+        assert_one_place(rt, roots(field, &register, 44_548), 44_547);
+    }
+
+    #[test]
+    fn one_flip_at_each_size(rt: HostRuntime) -> Result<(), Fail> {
+        let field = Tables::new(rt.alloc())?;
+        assert_last_word::<4>(&rt, &field);
+        assert_last_word::<8>(&rt, &field);
+        assert_last_word::<16>(&rt, &field);
+        assert_last_word::<32>(&rt, &field);
+        Ok(())
+    }
+
+    #[test]
+    fn roots_of_two_coefficients(rt: HostRuntime) -> Result<(), Fail> {
+        let field = Tables::new(rt.alloc())?;
+        let register = locate(&field, [0u16, 3, 5, 9]);
+        assert!(rt; roots(&field, &register, 1).is_none());
+        if let Some(places) = roots(&field, &register, 3) {
+            assert!(rt; places.count == 2);
+            assert!(rt; places.k[0] == 1 && places.k[1] == 2);
+        } else {
+            assert!(rt; false);
+        }
+        Ok(())
+    }
+}

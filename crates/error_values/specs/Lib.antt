@@ -1,0 +1,2 @@
+pub mod ErrorList
+pub mod Division

@@ -1,0 +1,180 @@
+//! One column decoded: the errors that made its syndromes.
+#![tactic(auto)]
+
+#[cfg(test)]
+mod table_rows;
+
+ghost use Rattle.std.specs.Prelude.{◌≡◌, ◌≢◌, ℕ, ◌+◌, ◌-◌, ◌<◌, ◌≤◌, ◌↔◌, IfSome, IsNone, length, slice_index};
+ghost use Rattle.gf16_field.specs.Gf16.{◌⊗◌};
+ghost use Rattle.error_locator.specs.Flips.{locator_of};
+ghost use Rattle.error_locator.specs.Roots.{AreRoots};
+ghost use Rattle.error_values.specs.Division.{dividend_at, divisor_at};
+ghost use Rattle.error_values.specs.ErrorList.{IsErrorList};
+
+use error_locator::{Places, inverse_of, locate, roots};
+use gf16_field::{Gf, Tables, add, pow_alpha};
+use gf16_poly::{Register, are_words};
+
+/// Errors in a column: `count` places `k`, rising, each with the flip that was exclusive-ored into its word.
+#[derive(Clone, Copy)]
+pub struct Errors<const P: usize> {
+    pub count: usize,
+    pub k: [u16; P],
+    pub flip: [u16; P],
+    ghost fits: { count ≤ P },
+}
+
+/// The flip at the root with the locator `x`. The locators' polynomial is divided by `y + x`: the words, summed with
+/// the quotient's coefficients, are the flip times the quotient's value at `x`, since all other flips go.
+fn flip_at<const P: usize>(field: &Tables, r: &Register<P>, s: &[u16; P], x: Gf) -> Gf
+    requires some { 0 < r.now.len }
+    requires simple { divisor_at r.now.len (λ i. slice_index r.now.coef i) x.0 ≢ 0 }
+    ensures { result.0 ⊗ divisor_at r.now.len (λ i. slice_index r.now.coef i) x.0 ≡ dividend_at r.now.len (λ i. slice_index r.now.coef i) (λ i. slice_index s.now i) x.0 }
+{
+    are_words(s);
+    let last = r.len - 1;
+    let mut quotient = Gf(1);
+    let mut divisor = Gf(1);
+    let mut dividend = Gf(s[last]);
+    for i in 0..last {
+        quotient = add(Gf(r.coef[i]), field.mul(x, quotient));
+        divisor = add(field.mul(x, divisor), quotient);
+        dividend = add(dividend, field.mul(quotient, Gf(s[last - 1 - i])));
+    }
+    field.mul(dividend, inverse_of(field, divisor))
+}
+
+/// The flip at each place.
+fn flips<const P: usize>(
+    field: &Tables,
+    r: &Register<P>,
+    s: &[u16; P],
+    places: &Places<P>,
+    c: u32,
+) -> [u16; P]
+    requires column { c ≤ 44548 }
+    requires count { places.now.count ≡ r.now.len }
+    requires roots { AreRoots r.now.len (λ i. slice_index r.now.coef i) c places.now.count (λ i. slice_index places.now.k i) }
+    ensures { (i : ℕ) → i < places.now.count → slice_index result i ⊗ divisor_at r.now.len (λ i. slice_index r.now.coef i) (locator_of c (slice_index places.now.k i))
+        ≡ dividend_at r.now.len (λ i. slice_index r.now.coef i) (λ i. slice_index s.now i) (locator_of c (slice_index places.now.k i)) }
+{
+    are_words(&r.coef);
+    let mut flip = [0; P];
+    for i in 0..places.count {
+        let x = pow_alpha(c - 1 - places.k[i] as u32);
+        flip[i] = flip_at(field, r, s, x).0;
+    }
+    flip
+}
+
+/// The list of at most `P / 2` errors in a column of `c` words whose syndromes are `s`: it is the only one, and None
+/// exactly where there is none. It takes no memory.
+pub fn decode_column<const P: usize>(field: &Tables, s: [u16; P], c: u32) -> Option<Errors<P>>
+    requires size { P ≤ 32 }
+    requires some { 0 < c }
+    requires column { c ≤ 44548 }
+    ensures found { IfSome result (λ errors. IsErrorList P c (λ i. slice_index s.entry i) errors.count (λ i. slice_index errors.k i) (λ i. slice_index errors.flip i)) }
+    ensures only { IfSome result (λ errors. (e : ℕ) (k flip : ℕ → ℕ) → IsErrorList P c (λ i. slice_index s.entry i) e k flip
+        → (errors.count ≡ e) × ((i : ℕ) → i < e → (slice_index errors.k i ≡ k i) × (slice_index errors.flip i ≡ flip i))) }
+    ensures none { IsNone result ↔ ((e : ℕ) (k flip : ℕ → ℕ) → IsErrorList P c (λ i. slice_index s.entry i) e k flip → ⊥) }
+{
+    are_words(&s);
+    let register = locate(field, s);
+    are_words(&register.coef);
+    let places = roots(field, &register, c)?;
+    let flip = flips(field, &register, &s, &places, c);
+    are_words(&flip);
+    let Places { count, k } = places;
+    Some(Errors { count, k, flip })
+}
+
+#[cfg(test)]
+mod tests {
+    use super::table_rows::{ROWS_4, ROWS_8, ROWS_16, ROWS_32};
+    use super::*;
+    use std::process::Abort;
+    use std::test::Fail;
+
+    fn assert_errors<const P: usize>(
+        rt: &impl Abort,
+        found: Option<Errors<P>>,
+        places: &[u16],
+        flips: &[u16],
+    ) {
+        if let Some(errors) = found {
+            assert!(rt; &errors.k[..errors.count] == places);
+            assert!(rt; &errors.flip[..errors.count] == flips);
+        } else {
+            assert!(rt; false);
+        }
+    }
+
+    #[test]
+    fn columns_of_one_and_three_words(rt: HostRuntime) -> Result<(), Fail> {
+        let field = Tables::new(rt.alloc())?;
+        assert_errors(&rt, decode_column(&field, [0u16, 0, 0, 0], 3), &[], &[]);
+        assert_errors(&rt, decode_column(&field, [1u16, 1, 1, 1], 3), &[2], &[1]);
+        assert_errors(
+            &rt,
+            decode_column(&field, [0u16, 3, 5, 9], 3),
+            &[1, 2],
+            &[1, 1],
+        );
+        assert_errors(&rt, decode_column(&field, [1u16, 1, 1, 1], 1), &[0], &[1]);
+        assert!(rt; decode_column(&field, [1u16, 0, 0, 0], 3).is_none());
+        assert!(rt; decode_column(&field, [0u16, 0, 0, 1], 3).is_none());
+        assert!(rt; decode_column(&field, [0u16, 3, 5, 9], 1).is_none());
+        Ok(())
+    }
+
+    /// The `P` words of a row from its `at`-th on.
+    fn words_from<const P: usize>(row: &[u16], at: usize) -> [u16; P]
+        requires { at + P ≤ length row.now }
+    {
+        let mut words = [0u16; P];
+        for i in 0..P {
+            words[i] = row[at + i];
+        }
+        words
+    }
+
+    /// Decodes the syndromes of a row: `c`, the number of errors or 65,535, `P / 2` places, `P / 2` flips, `P` syndromes.
+    fn assert_row<const P: usize>(rt: &impl Abort, field: &Tables, row: &[u16])
+        requires { P ≤ 32 }
+    {
+        assert!(rt; row.len() == 2 + 2 * P);
+        let c = row[0] as u32;
+        assert!(rt; 0 < c && c <= 44_548);
+        let found = decode_column::<P>(field, words_from(row, 2 + P), c);
+        let count = row[1] as usize;
+        if count == 65_535 {
+            assert!(rt; found.is_none());
+        } else {
+            assert!(rt; count <= P / 2);
+            assert_errors(
+                rt,
+                found,
+                &row[2..2 + count],
+                &row[2 + P / 2..2 + P / 2 + count],
+            );
+        }
+    }
+
+    #[test]
+    fn patterns_within_the_radius_and_past_it(rt: HostRuntime) -> Result<(), Fail> {
+        let field = Tables::new(rt.alloc())?;
+        for row in &ROWS_4 {
+            assert_row::<4>(&rt, &field, row);
+        }
+        for row in &ROWS_8 {
+            assert_row::<8>(&rt, &field, row);
+        }
+        for row in &ROWS_16 {
+            assert_row::<16>(&rt, &field, row);
+        }
+        for row in &ROWS_32 {
+            assert_row::<32>(&rt, &field, row);
+        }
+        Ok(())
+    }
+}
