@@ -6,10 +6,10 @@ ghost use Rattle.gf16_field.specs.Xor.{◌⊕◌, xor_below};
 ghost use Rattle.gf16_field.specs.Gf16.{◌⊗◌, alpha_power};
 ghost use Rattle.gf16_poly.specs.Register.{AllWords, Generates, locator, with_one};
 ghost use Rattle.error_locator.specs.Flips.{AreFlips, HaveSyndromes, locator_of};
-ghost use Rattle.error_locator.specs.Roots.{AreRoots, HasAllRoots};
+ghost use Rattle.error_locator.specs.Roots.{AreRoots, HasAllRoots, IsRoot};
 ghost use Rattle.error_locator.specs.Search.{IsSearch, adjusted, shifted};
 ghost use Rattle.error_locator.specs.Shortest.{IsShortest};
-ghost use Rattle.error_locator.specs.Walk.{AreTerms, IsWalk, inverse_at};
+ghost use Rattle.error_locator.specs.Walk.{AreTerms, inverse_at};
 
 use gf16_field::{Gf, Tables, add, double, pow_alpha};
 use gf16_poly::{Register, are_words, discrepancy};
@@ -44,17 +44,6 @@ fn adjust<const P: usize>(
         next[i] = add(Gf(coef[i]), term(field, old, shift, factor, i)).0;
     }
     next
-}
-
-/// The word whose product with `a`, which isn't 0, is 1.
-pub fn inverse_of(field: &Tables, a: Gf) -> Gf
-    requires { a.0 ≢ 0 }
-    ensures { a.0 ⊗ result.0 ≡ 1 }
-{
-    match field.inverse(a) {
-        Some(b) => b,
-        None => unreachable!(),
-    }
 }
 
 /// Where the search for the shortest register stands: the shortest one for the words so far, and the last shorter
@@ -94,7 +83,7 @@ fn step<const P: usize>(field: &Tables, search: Search<P>, s: &[u16; P], n: usiz
             shift: shift + 1,
         };
     }
-    let factor = field.mul(missed, inverse_of(field, old_miss));
+    let factor = field.mul(missed, field.inverse_of(old_miss));
     let next = adjust(field, &coef, &old, shift, factor);
     if 2 * len <= n {
         Search {
@@ -146,7 +135,7 @@ pub fn locate<const P: usize>(field: &Tables, s: [u16; P]) -> Register<P>
     Register { len, coef }
 }
 
-/// Places in a column, rising.
+/// Places in a column: the first `count` entries of `k`, which rise.
 #[derive(Clone, Copy)]
 pub struct Places<const P: usize> {
     pub count: usize,
@@ -168,18 +157,16 @@ fn terms_at<const P: usize>(field: &Tables, coef: &[u16; P], len: usize, y: Gf) 
     terms
 }
 
-/// The terms at the next place: each times its own power of α.
-fn advance<const P: usize>(field: &Tables, terms: &[u16; P], len: usize) -> [u16; P]
+/// Takes the terms to the next place: each times its own power of α.
+fn advance<const P: usize>(field: &Tables, terms: &mut [u16; P], len: usize)
     requires { len ≤ P }
-    ensures { (i : ℕ) → i < len → slice_index result i ≡ slice_index terms.now i ⊗ alpha_power (i + 1) }
+    ensures { (i : ℕ) → i < len → slice_index terms.new i ≡ slice_index terms.old i ⊗ alpha_power (i + 1) }
 {
-    let mut next = *terms;
     let mut alpha = Gf(2);
     for i in 0..len {
-        next[i] = field.mul(Gf(terms[i]), alpha).0;
+        terms[i] = field.mul(Gf(terms[i]), alpha).0;
         alpha = double(alpha);
     }
-    next
 }
 
 /// 1 and the first `len` terms, added.
@@ -194,45 +181,30 @@ fn sum<const P: usize>(terms: &[u16; P], len: usize) -> Gf
     sum
 }
 
-/// Where the walk over the places of a column stands: the roots so far, and the polynomial's terms at the place.
-#[derive(Clone, Copy)]
-struct Walk<const P: usize> {
-    count: usize,
-    k: [u16; P],
-    terms: [u16; P],
-}
-
-/// One place more.
-fn visit<const P: usize>(
+/// The first root from `place` on, or `c`, and the terms there.
+fn next_root<const P: usize>(
     field: &Tables,
     r: &Register<P>,
     c: u32,
-    walk: Walk<P>,
+    terms: &mut [u16; P],
     place: u32,
-) -> Walk<P>
+) -> u32
     requires column { c ≤ 44548 }
-    requires inside { place < c }
-    requires room { walk.count < r.now.len }
-    requires now { IsWalk r.now.len (λ i. slice_index r.now.coef i) c place walk.count (λ i. slice_index walk.k i) (λ i. slice_index walk.terms i) }
-    ensures { IsWalk r.now.len (λ i. slice_index r.now.coef i) c (place + 1) result.count (λ i. slice_index result.k i) (λ i. slice_index result.terms i) }
+    requires inside { place ≤ c }
+    requires terms { AreTerms r.now.len (λ i. slice_index r.now.coef i) (inverse_at c place) (λ i. slice_index terms.old i) }
+    ensures inside { result ≤ c }
+    ensures later { place ≤ result }
+    ensures none { (q : ℕ) → place ≤ q → q < result → IsRoot r.now.len (λ i. slice_index r.now.coef i) c q → ⊥ }
+    ensures root { result < c → IsRoot r.now.len (λ i. slice_index r.now.coef i) c result }
+    ensures terms { AreTerms r.now.len (λ i. slice_index r.now.coef i) (inverse_at c result) (λ i. slice_index terms.new i) }
 {
     are_words(&r.coef);
-    let Walk { count, k, terms } = walk;
-    let next = advance(field, &terms, r.len);
-    if sum(&terms, r.len).0 != 0 {
-        return Walk {
-            count,
-            k,
-            terms: next,
-        };
+    let mut place = place;
+    while place < c && sum(terms, r.len).0 != 0 {
+        advance(field, terms, r.len);
+        place += 1;
     }
-    let mut more = k;
-    more[count] = place as u16;
-    Walk {
-        count: count + 1,
-        k: more,
-        terms: next,
-    }
+    place
 }
 
 /// The places of a column of `c` words, rising, at which the register's polynomial is 0: those `k` where it is 0 at
@@ -252,17 +224,19 @@ pub fn roots<const P: usize>(field: &Tables, r: &Register<P>, c: u32) -> Option<
         return None;
     }
     are_words(&r.coef);
-    let k = [0; P];
-    let terms = terms_at(field, &r.coef, r.len, pow_alpha(65_536 - c));
-    let mut walk = Walk { count: 0, k, terms };
+    let mut k = [0; P];
+    let mut terms = terms_at(field, &r.coef, r.len, pow_alpha(65_536 - c));
+    let mut count = 0;
     let mut place = 0;
-    while place < c && walk.count < r.len {
-        walk = visit(field, r, c, walk, place);
+    while count < r.len {
+        place = next_root(field, r, c, &mut terms, place);
+        if place == c {
+            return None;
+        }
+        k[count] = place as u16;
+        count += 1;
+        advance(field, &mut terms, r.len);
         place += 1;
-    }
-    let Walk { count, k, .. } = walk;
-    if count < r.len {
-        return None;
     }
     Some(Places { count, k })
 }

@@ -5,13 +5,17 @@
 mod table_rows;
 
 ghost use Rattle.std.specs.Prelude.{◌≡◌, ◌≢◌, ℕ, ◌+◌, ◌-◌, ◌<◌, ◌≤◌, ◌↔◌, IfSome, IsNone, length, slice_index};
+ghost use Rattle.gf16_field.specs.Column.{column_sum};
 ghost use Rattle.gf16_field.specs.Gf16.{◌⊗◌};
+ghost use Rattle.gf16_field.specs.Xor.{◌⊕◌};
+ghost use Rattle.gf16_poly.specs.Register.{AllWords};
 ghost use Rattle.error_locator.specs.Flips.{locator_of};
 ghost use Rattle.error_locator.specs.Roots.{AreRoots};
+ghost use Rattle.error_values.specs.Column.{nonzero_below};
 ghost use Rattle.error_values.specs.Division.{dividend_at, divisor_at};
 ghost use Rattle.error_values.specs.ErrorList.{IsErrorList};
 
-use error_locator::{Places, inverse_of, locate, roots};
+use error_locator::{Places, locate, roots};
 use gf16_field::{Gf, Tables, add, pow_alpha};
 use gf16_poly::{Register, are_words};
 
@@ -41,7 +45,7 @@ fn flip_at<const P: usize>(field: &Tables, r: &Register<P>, s: &[u16; P], x: Gf)
         divisor = add(field.mul(x, divisor), quotient);
         dividend = add(dividend, field.mul(quotient, Gf(s[last - 1 - i])));
     }
-    field.mul(dividend, inverse_of(field, divisor))
+    field.mul(dividend, field.inverse_of(divisor))
 }
 
 /// The flip at each place.
@@ -87,6 +91,13 @@ pub fn decode_column<const P: usize>(field: &Tables, s: [u16; P], c: u32) -> Opt
     let Places { count, k } = places;
     Some(Errors { count, k, flip })
 }
+
+/// The law of columns: two columns of words with the same `count` syndromes differ in no place, or in more than
+/// `count` places.
+pub fn laws()
+    ensures { (count c : ℕ) (v w : ℕ → ℕ) → c ≤ 65535 → AllWords v → AllWords w → ((m : ℕ) → m < count → column_sum m c v ≡ column_sum m c w)
+        → nonzero_below c (λ k. v k ⊕ w k) ≤ count → (k : ℕ) → k < c → v k ≡ w k }
+{}
 
 #[cfg(test)]
 mod tests {

@@ -10,3 +10,4 @@ pub mod ColumnLaws
 pub mod TableSteps
 pub mod SumLaws
 pub mod PowerRules
+pub mod ColumnSums

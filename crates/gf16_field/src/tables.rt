@@ -1,6 +1,6 @@
 // Products and inverses by tables of logarithms.
 
-ghost use Rattle.std.specs.Prelude.{◌≡◌, ℕ, ◌+◌, ◌↔◌, IfOk, IfSome, IsNone, length, vec_len};
+ghost use Rattle.std.specs.Prelude.{◌≡◌, ◌≢◌, ℕ, ◌+◌, ◌↔◌, IfOk, IfSome, IsNone, length, vec_len};
 ghost use Rattle.gf16_field.specs.Gf16.{◌⊗◌, IsProduct};
 ghost use Rattle.gf16_field.specs.Logs.{AreLogs, ArePowers};
 
@@ -84,5 +84,16 @@ impl Tables {
         }
         let i = self.log[a.0 as usize] as usize;
         Some(Gf(self.exp[65_535 - i]))
+    }
+
+    /// The word whose product with `a` is 1, for an `a` that isn't 0. It takes no memory.
+    pub fn inverse_of(&self, a: Gf) -> Gf
+        requires { a.0 ≢ 0 }
+        ensures { a.0 ⊗ result.0 ≡ 1 }
+    {
+        match self.inverse(a) {
+            Some(b) => b,
+            None => unreachable!(),
+        }
     }
 }

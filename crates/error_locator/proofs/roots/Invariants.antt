@@ -1,9 +1,12 @@
-use Rattle.std.proofs.Common.{◌-◌, get_or}
-use Rattle.error_locator.specs.Walk.{IsWalk}
+use Rattle.std.proofs.Common.{◌≡◌, ◌-◌, get_or, length}
+use Rattle.error_locator.proofs.RootWalk.{IsWalk}
 use Rattle.error_locator.proofs.roots.Given as goal
 
-abbrev pub invariant-loop-place : goal.invariant-loop-place
-invariant-loop-place g l = IsWalk l.r.len (λ i. get_or l.r.coef i 0) l.c l.place l.walk.count (λ i. get_or l.walk.k i 0) (λ i. get_or l.walk.terms i 0)
+abbrev pub invariant-loop-count : goal.invariant-loop-count
+invariant-loop-count g l = record {
+  long : length l.k ≡ g.row.P;
+  walk : IsWalk l.r.len (λ i. get_or l.r.coef i 0) l.c l.place l.count (λ i. get_or l.k i 0) (λ i. get_or l.terms i 0);
+}
 
-abbrev pub decreases-loop-place : goal.decreases-loop-place
-decreases-loop-place g l = l.c - l.place
+abbrev pub decreases-loop-count : goal.decreases-loop-count
+decreases-loop-count g l = l.r.len - l.count
