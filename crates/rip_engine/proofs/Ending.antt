@@ -8,8 +8,8 @@ use Rattle.rip_engine.specs.Steps.{opened, laid_out, free, StopsWithCause}
 use Rattle.rip_engine.specs.Outcome.{Outcome, refused, done, IsOutcomeOf, written_by, Leaves, Then, SameButPart}
 use Rattle.rip_engine.specs.Texts.{refusal_line, read_fault_line, write_fault_line}
 use Rattle.rip_engine.specs.Run.{FaultsOfCommand, Concluded, OutcomeDecides, ReadFaultHasCause, WriteFaultHasCause, SinkFaultHasCause, WantOfMemoryKeeps, NothingWritten, Completes, ReadFailed, WriteFailed}
-use Rattle.rip_engine.specs.declared.words.Command.{Command}
-use Rattle.rip_engine.specs.declared.words.Command.TheVariants.{Register}
+use Rattle.rip_words.specs.declared.Command.{Command}
+use Rattle.rip_words.specs.declared.Command.TheVariants.{Register}
 use Rattle.rip_engine.specs.declared.status.Status.{Status}
 use Rattle.rip_engine.specs.declared.status.Status.TheVariants.{ReadFault, WriteFault, SinkFault, WantOfMemory}
 use Rattle.rip_engine.specs.declared.steps.Stop.{Stop}

@@ -10,7 +10,7 @@ use Rattle.rip_outside.specs.declared.fault.ShelfCall.TheVariants.{Rename}
 use Rattle.parity_store.specs.Put.{after_put, LeavesName}
 use Rattle.parity_store.specs.declared.storing.PutFail.{PutFail}
 use Rattle.parity_store.specs.declared.storing.PutFail.TheVariants.{WriteFault, Oom}
-use Rattle.rip_engine.specs.Command.{part_of}
+use Rattle.rip_words.specs.Command.{part_of}
 use Rattle.rip_engine.specs.Steps.{free, Does, ReadsWithCause, OnlyReads, OnlyRefuses, StopsWithCause, stop_of}
 use Rattle.rip_engine.specs.Outcome.{Outcome, done, Then, Leaves}
 use Rattle.rip_engine.specs.declared.status.Status.{Status}

@@ -11,17 +11,17 @@ use Rattle.std.specs.FinMap.{get, remove}
 use Rattle.rip_outside.specs.Files.{Files}
 use Rattle.rip_outside.specs.Seen.{Seen}
 use Rattle.rip_outside.proofs.FilesLaws.{if_told, get-insert_same, get-insert_other, get-remove_same}
-use Rattle.wav_frames.specs.Opening.{Refusal, wav_reading}
-use Rattle.wav_frames.specs.declared.opening.WavAt.{WavAt}
+use Rattle.wav_frames.specs.Chunks.{Refusal, wav_reading}
+use Rattle.wav_frames.specs.declared.fail.WavAt.{WavAt}
 use Rattle.disc_toc.specs.Toc.{Toc}
-use Rattle.rip_engine.specs.Command.{part_of}
+use Rattle.rip_words.specs.Command.{part_of}
 use Rattle.rip_engine.specs.Steps.{long_enough, words_read, words_opened, opened, laid_out, free}
 use Rattle.rip_engine.specs.Outcome.{Outcome, IsOutcomeOf, IsRegisterOutcome, Then, done, record_of, refused}
 use Rattle.rip_engine.specs.Texts.{registered_line}
 use Rattle.rip_engine.specs.Run.{IsAnswered, OutcomeDecides, Stored, StoresParity}
 use Rattle.rip_engine.proofs.Leaving.{part_differs}
-use Rattle.rip_engine.specs.declared.words.Command.{Command}
-use Rattle.rip_engine.specs.declared.words.Command.TheVariants.{Register}
+use Rattle.rip_words.specs.declared.Command.{Command}
+use Rattle.rip_words.specs.declared.Command.TheVariants.{Register}
 use Rattle.rip_engine.specs.declared.status.Status.{Status}
 use Rattle.rip_engine.specs.declared.status.Status.TheVariants.{Done, LayoutRefused, OutExists}
 

@@ -9,15 +9,15 @@ use Rattle.syndrome_stream.specs.Parity.{image_parity}
 use Rattle.disc_toc.specs.Toc.{Toc}
 use Rattle.parity_store.specs.Put.{after_put}
 use Rattle.parity_store.specs.Record.{record_bytes_of}
-use Rattle.rip_engine.specs.Command.{output_of, part_of}
+use Rattle.rip_words.specs.Command.{output_of, part_of}
 use Rattle.rip_engine.specs.Steps.{opened, laid_out, free}
 use Rattle.rip_engine.specs.Texts.{refusal_line, registered_line}
 use Rattle.rip_engine.specs.declared.status.Status.{Status}
 use Rattle.rip_engine.specs.declared.status.Status.TheVariants.{Done, Usage}
 use Rattle.rip_engine.specs.declared.steps.Stop.{Stop}
 use Rattle.rip_engine.specs.declared.steps.Stop.TheVariants.{Refused, ReadFault as ReadStop, WriteFault as WriteStop, Oom as WantStop}
-use Rattle.rip_engine.specs.declared.words.Command.{Command}
-use Rattle.rip_engine.specs.declared.words.Command.TheVariants.{Register}
+use Rattle.rip_words.specs.declared.Command.{Command}
+use Rattle.rip_words.specs.declared.Command.TheVariants.{Register}
 
 pub record Outcome : Type 0 where
   pub status : Status

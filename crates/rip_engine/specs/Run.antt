@@ -7,12 +7,12 @@ use Rattle.rip_outside.specs.Causes.{Rose, IsReadCall, IsWriteCall}
 use Rattle.rip_outside.specs.Seen.{Seen}
 use Rattle.rip_outside.specs.declared.fault.ShelfCall.{ShelfCall}
 use Rattle.disc_toc.specs.Toc.{Toc}
-use Rattle.rip_engine.specs.Command.{part_of}
+use Rattle.rip_words.specs.Command.{part_of}
 use Rattle.rip_engine.specs.Steps.{opened, laid_out}
 use Rattle.rip_engine.specs.Outcome.{Outcome, record_of, IsOutcomeOf, written_by, SameButPart, SameButOutput}
 use Rattle.rip_engine.specs.Texts.{registered_line, refusal_line, read_fault_line, write_fault_line}
-use Rattle.rip_engine.specs.declared.words.Command.{Command}
-use Rattle.rip_engine.specs.declared.words.Command.TheVariants.{Register}
+use Rattle.rip_words.specs.declared.Command.{Command}
+use Rattle.rip_words.specs.declared.Command.TheVariants.{Register}
 use Rattle.rip_engine.specs.declared.status.Status.{Status}
 use Rattle.rip_engine.specs.declared.status.Status.TheVariants.{Done, ReadFault, WriteFault, SinkFault, WantOfMemory}
 use Rattle.rip_engine.specs.declared.steps.Stop.{Stop}

@@ -6,15 +6,16 @@ use Rattle.std.specs.FinMap.{get}
 use Rattle.rip_outside.specs.Files.{Files}
 use Rattle.rip_outside.specs.Causes.{Rose, IsReadCall, IsWriteCall}
 use Rattle.rip_outside.specs.declared.fault.ShelfCall.{ShelfCall}
-use Rattle.wav_frames.specs.Opening.{Refusal, wav_reading, wav_words}
-use Rattle.wav_frames.specs.declared.opening.WavAt.{WavAt}
+use Rattle.wav_frames.specs.Opening.{wav_words}
+use Rattle.wav_frames.specs.Chunks.{Refusal, wav_reading}
+use Rattle.wav_frames.specs.declared.fail.WavAt.{WavAt}
 use Rattle.disc_toc.specs.Toc.{Toc}
 use Rattle.disc_toc.specs.OneTrack.{one_track_reading}
 use Rattle.disc_toc.specs.declared.reading.LayoutKind.{LayoutKind}
 use Rattle.disc_toc.specs.declared.reading.LayoutKind.TheVariants.{TooShort}
 use Rattle.parity_store.specs.declared.storing.PutFail.{PutFail}
 use Rattle.parity_store.specs.declared.storing.PutFail.TheVariants.{WriteFault, Oom}
-use Rattle.rip_engine.specs.Command.{part_of}
+use Rattle.rip_words.specs.Command.{part_of}
 use Rattle.rip_engine.specs.declared.status.Status.{Status}
 use Rattle.rip_engine.specs.declared.status.Status.TheVariants.{Usage, Missing, WavRefused, LayoutRefused, OutExists}
 use Rattle.rip_engine.specs.declared.steps.Stop.{Stop}

@@ -1,8 +1,8 @@
 -- The printed texts, and the exit numbers.
 use Rattle.std.specs.Prelude.{ℕ, List, [], ◌∷◌, ◌++◌, codes}
 use Rattle.std.specs.Fmt.{decimal}
-use Rattle.wav_frames.specs.declared.opening.WavKind.{WavKind}
-use Rattle.wav_frames.specs.declared.opening.WavKind.TheVariants.{NotPlain}
+use Rattle.wav_frames.specs.declared.fail.WavKind.{WavKind}
+use Rattle.wav_frames.specs.declared.fail.WavKind.TheVariants.{NotRiff, NotWave, NoFmt, FmtShort, NotPcm, NotStereo, NotCdRate, Not16Bit, NoData, DataPastEnd, StreamedLength, HalfSample}
 use Rattle.disc_toc.specs.declared.reading.LayoutKind.{LayoutKind}
 use Rattle.disc_toc.specs.declared.reading.LayoutKind.TheVariants.{NotWholeSectors, IndexPastEnd, StartOrder, TooLong, TooShort}
 use Rattle.rip_engine.specs.declared.status.Status.{Status}
@@ -13,7 +13,18 @@ abbrev pub line : List ℕ → List ℕ
 line text = text ++ 10 ∷ []
 
 abbrev pub wav_kind_text : WavKind → List ℕ
-wav_kind_text NotPlain = codes "NotPlain"
+wav_kind_text NotRiff = codes "NotRiff"
+wav_kind_text NotWave = codes "NotWave"
+wav_kind_text NoFmt = codes "NoFmt"
+wav_kind_text FmtShort = codes "FmtShort"
+wav_kind_text NotPcm = codes "NotPcm"
+wav_kind_text NotStereo = codes "NotStereo"
+wav_kind_text NotCdRate = codes "NotCdRate"
+wav_kind_text Not16Bit = codes "Not16Bit"
+wav_kind_text NoData = codes "NoData"
+wav_kind_text DataPastEnd = codes "DataPastEnd"
+wav_kind_text StreamedLength = codes "StreamedLength"
+wav_kind_text HalfSample = codes "HalfSample"
 
 abbrev pub layout_kind_text : LayoutKind → List ℕ
 layout_kind_text (NotWholeSectors file) = codes "NotWholeSectors file " ++ decimal file

@@ -6,11 +6,9 @@ mod registering;
 mod running;
 mod status;
 mod steps;
-mod words;
 
-pub use reading::sum_parity;
+pub use reading::{sole_image, sum_parity};
 pub use registering::register;
 pub use running::run;
 pub use status::{Status, refusal_text, registered_text};
 pub use steps::{Stop, check_free, lay_out, open_input, part_name, write_out};
-pub use words::{Command, WordsFail, read_words};

@@ -9,13 +9,14 @@ ghost use Rattle.syndrome_stream.specs.Parity.{image_parity};
 ghost use Rattle.disc_toc.specs.Toc.{toc_of};
 ghost use Rattle.wav_frames.specs.Opening.{wav_words};
 ghost use Rattle.parity_store.specs.Put.{after_put};
-ghost use Rattle.rip_engine.specs.Command.{part_of};
+ghost use Rattle.rip_words.specs.Command.{part_of};
 ghost use Rattle.rip_engine.specs.Steps.{StopsWithCause, OnlyReads};
 ghost use Rattle.rip_engine.specs.Texts.{registered_line};
 ghost use Rattle.rip_engine.specs.Outcome.{IsRegisterOutcome, Leaves, done, record_of};
 
 use crate::{
-    Stop, check_free, lay_out, open_input, part_name, registered_text, sum_parity, write_out,
+    Stop, check_free, lay_out, open_input, part_name, registered_text, sole_image, sum_parity,
+    write_out,
 };
 use column_map::Shape;
 use disc_toc::Layout;
@@ -45,7 +46,8 @@ fn store<S: Shelf>(
     ensures cause { StopsWithCause (S.faults shelf.old) (S.faults shelf.new) result }
 {
     let sectors = layout.sectors;
-    let table = sum_parity(alloc, shelf, input, wav, shape)?;
+    let image = sole_image(alloc, input, wav)?;
+    let table = sum_parity(alloc, shelf, &image, shape)?;
     let parity = Parity::Eight(table);
     let bytes = record_bytes(alloc, &Record { layout, parity })?;
     let text = registered_text(alloc, rec, sectors, 8)?;

@@ -1,13 +1,14 @@
 // All that the program does.
 ghost use Rattle.std.specs.Prelude.{◌≡◌, IfSome};
 ghost use Rattle.rip_outside.specs.Seen.{seen};
-ghost use Rattle.rip_engine.specs.Command.{texts, command_reading};
+ghost use Rattle.rip_words.specs.Command.{texts, command_reading};
 ghost use Rattle.rip_engine.specs.Steps.{StopsWithCause};
 ghost use Rattle.rip_engine.specs.Outcome.{IsOutcomeOf, Leaves, written_by};
 ghost use Rattle.rip_engine.specs.Run.{FaultsOfCommand, Reported, Concluded, OutcomeDecides, ReadFaultHasCause, WriteFaultHasCause, SinkFaultHasCause, WantOfMemoryKeeps, NothingWritten, Completes, StoresParity};
 
-use crate::{Command, Status, Stop, WordsFail, read_words, refusal_text, register};
+use crate::{Status, Stop, refusal_text, register};
 use rip_outside::{Shelf, Sink, Text};
+use rip_words::{Command, WordsFail, read_words};
 use std::alloc::Global;
 
 // Does the command that the words are, but for the printing.

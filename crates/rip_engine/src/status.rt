@@ -70,7 +70,18 @@ fn wav_kind_name(kind: WavKind) -> &'static str
     ensures { result.now ≡ wav_kind_text kind }
 {
     match kind {
-        WavKind::NotPlain => "NotPlain",
+        WavKind::NotRiff => "NotRiff",
+        WavKind::NotWave => "NotWave",
+        WavKind::NoFmt => "NoFmt",
+        WavKind::FmtShort => "FmtShort",
+        WavKind::NotPcm => "NotPcm",
+        WavKind::NotStereo => "NotStereo",
+        WavKind::NotCdRate => "NotCdRate",
+        WavKind::Not16Bit => "Not16Bit",
+        WavKind::NoData => "NoData",
+        WavKind::DataPastEnd => "DataPastEnd",
+        WavKind::StreamedLength => "StreamedLength",
+        WavKind::HalfSample => "HalfSample",
     }
 }
 

@@ -7,7 +7,7 @@ ghost use Rattle.rip_outside.specs.Causes.{NoneFell};
 ghost use Rattle.disc_toc.specs.Toc.{toc_of};
 ghost use Rattle.wav_frames.specs.Opening.{IsInFile, wav_words};
 ghost use Rattle.parity_store.specs.Put.{after_put};
-ghost use Rattle.rip_engine.specs.Command.{part_of};
+ghost use Rattle.rip_words.specs.Command.{part_of};
 ghost use Rattle.rip_engine.specs.Steps.{opened, laid_out, free, stop_of, Does, OnlyRefuses, ReadsWithCause, StopsWithCause};
 ghost use Rattle.rip_engine.specs.Outcome.{Leaves, done};
 
@@ -43,7 +43,8 @@ impl From<Oom> for Stop {
     }
 }
 
-fn name_of(alloc: Global, name: &str) -> Result<Name, Oom>
+/// A name of its own.
+pub fn name_of(alloc: Global, name: &str) -> Result<Name, Oom>
     ensures { IfOk result (λ copy. copy ≡ name.now) }
 {
     match String::from_str(alloc, name) {

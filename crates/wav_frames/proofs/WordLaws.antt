@@ -1,5 +1,6 @@
 -- Laws of words as bytes.
-use Rattle.std.proofs.Common.{◌≡◌, ℕ, zero, suc, ◌+◌, ◌*◌, ◌/◌, ◌%◌, ◌<◌, List, [], ◌∷◌, ◌++◌, length, take, drop, refl, arith, length-append}
+use Rattle.std.proofs.Common.{◌≡◌, ℕ, zero, suc, ◌+◌, ◌-◌, ◌*◌, ◌/◌, ◌%◌, ◌<◌, ◌≤◌, List, [], ◌∷◌, ◌++◌, length, take, drop, refl, sym, ◌∙◌, ap, arith, length-append}
+use Rattle.std.proofs.lemmas.List.{drop-drop, drop-take, take-take}
 use Rattle.std.specs.Prelude.{slice_index}
 use Rattle.wav_frames.specs.Wav.{words_of, bytes_of, IsBytes, IsWords, header_of, wav_bytes}
 
@@ -79,3 +80,14 @@ length-header_of words = refl
 
 pub length-wav_bytes : (words : List ℕ) → length (wav_bytes words) ≡ 44 + 2 * length words
 length-wav_bytes words = omega (arith, length-append (header_of (length words)) (bytes_of words), length-header_of (length words), length-bytes_of words)
+
+-- a piece of the words that stand from a place on, by the bytes of the piece
+pub words_of-piece : (start words from count : ℕ) (bytes : List ℕ) → from + count ≤ words
+    → take count (drop from (take words (words_of (drop start bytes)))) ≡ words_of (take (2 * count) (drop (start + 2 * from) bytes))
+words_of-piece start words from count bytes inside =
+    let all : words ≡ from + (words - from) = omega arith in
+    ap (λ w. take count (drop from (take w (words_of (drop start bytes))))) all
+    ∙ ap (take count) (drop-take from (words - from) (words_of (drop start bytes)))
+    ∙ take-take count (words - from) (drop from (words_of (drop start bytes))) (omega arith)
+    ∙ ap (take count) (sym (words_of-drop from (drop start bytes)) ∙ ap words_of (drop-drop (2 * from) start bytes))
+    ∙ sym (words_of-take count (drop (start + 2 * from) bytes))

@@ -1,42 +1,13 @@
--- Where the words of a file stand, and what a call that looks there tells.
-use Rattle.std.specs.Prelude.{◌≡◌, ℕ, ◌+◌, ◌-◌, ◌*◌, ◌/◌, ◌%◌, ◌^◌, ◌≤◌, ◌==◌, ◌&&◌, nat_le, if◌then◌else◌, List, length, take, drop, Option, None, Some, IsSomeAnd, IfSome, Result, Ok, Err}
-use Rattle.std.specs.Str.{bytes_eq}
+-- What a call tells that looks where the words of a file stand.
+use Rattle.std.specs.Prelude.{◌≡◌, ℕ, ◌+◌, ◌*◌, ◌-◌, ◌%◌, ◌^◌, ◌≤◌, List, length, take, drop, Option, None, IsSomeAnd, IfSome, Result, Ok, Err}
 use Rattle.rip_outside.specs.declared.fault.ShelfCall.{ShelfCall}
-use Rattle.rip_outside.specs.Causes.{Rose, IsReadCall, IsWriteCall}
+use Rattle.rip_outside.specs.Causes.{Rose, NoneFell, IsReadCall, IsWriteCall}
 use Rattle.rip_outside.specs.Files.{Files, bytes_at}
-use Rattle.wav_frames.specs.declared.opening.WavAt.{WavAt}
-use Rattle.wav_frames.specs.declared.opening.WavKind.{WavKind}
-use Rattle.wav_frames.specs.declared.opening.WavKind.TheVariants.{NotPlain}
-use Rattle.wav_frames.specs.declared.opening.WavFail.{WavFail}
-use Rattle.wav_frames.specs.declared.opening.WavFail.TheVariants.{Missing, Refused, ReadFault}
-use Rattle.wav_frames.specs.Wav.{words_of, header_of, wav_bytes}
-
--- why a file is refused, and at which of its bytes that shows
-pub record Refusal : Type 0 where
-  pub kind : WavKind
-  pub at : ℕ
-
-abbrev pub refused : WavKind → ℕ → Result WavAt Refusal
-refused kind at = Err record { kind = kind; at = at }
-
--- the words of a file of this many bytes that is a header and whole stereo samples, as many as a disc has
-abbrev pub plain_words : ℕ → Option ℕ
-plain_words size =
-    if (nat_le 44 size && ((size - 44) % 4 == 0)) && nat_le size 1047816044
-    then Some ((size - 44) / 2)
-    else None
-
--- what a file is read as that has this many words, if it is plain
-abbrev pub plain_reading : Option ℕ → List ℕ → Result WavAt Refusal
-plain_reading None bytes = refused NotPlain 0
-plain_reading (Some words) bytes =
-    if bytes_eq (take 44 bytes) (header_of words)
-    then Ok record { data_at = 44; words = words }
-    else refused NotPlain 0
-
--- where the words of a file stand that is a header and words, and nothing else
-abbrev pub wav_reading : List ℕ → Result WavAt Refusal
-wav_reading bytes = plain_reading (plain_words (length bytes)) bytes
+use Rattle.wav_frames.specs.declared.fail.WavAt.{WavAt}
+use Rattle.wav_frames.specs.declared.fail.WavFail.{WavFail}
+use Rattle.wav_frames.specs.declared.fail.WavFail.TheVariants.{Missing, Refused, ReadFault}
+use Rattle.wav_frames.specs.Wav.{words_of, wav_bytes}
+use Rattle.wav_frames.specs.Chunks.{Refusal, refused, wav_reading}
 
 -- a file that is these words and nothing else: whole stereo samples, no more than a disc has
 pub record IsPlain (words bytes : List ℕ) : Type 0 where
@@ -61,14 +32,37 @@ Opens (Err (Refused kind at)) file = IsSomeAnd file (λ bytes. wav_reading bytes
 Opens (Err Missing) file = file ≡ None
 Opens (Err (ReadFault call)) file = Unit {0}
 
+-- exactly what a part of a file is read as
+abbrev pub Tells : {T : Type 0} → Result T WavFail → Result T Refusal → Type 0
+Tells (Ok found) reading = reading ≡ Ok found
+Tells (Err (Refused kind at)) reading = reading ≡ refused kind at
+Tells (Err Missing) reading = ⊥
+Tells (Err (ReadFault call)) reading = Unit {0}
+
 -- a fault is of a reading call whose count rose
-abbrev pub FaultHasCause : (ShelfCall → ℕ) → (ShelfCall → ℕ) → Result WavAt WavFail → Type 0
+abbrev pub FaultHasCause : {T : Type 0} → (ShelfCall → ℕ) → (ShelfCall → ℕ) → Result T WavFail → Type 0
 FaultHasCause before now (Err (ReadFault call)) = IsReadCall call × Rose (before call) (now call)
 FaultHasCause before now result = Unit {0}
+
+-- no call has failed
+abbrev pub NoFault : {T : Type 0} → Result T WavFail → Type 0
+NoFault (Err (ReadFault call)) = ⊥
+NoFault result = Unit {0}
 
 -- no count of a writing call changes
 abbrev pub KeepsWriteCounts : (ShelfCall → ℕ) → (ShelfCall → ℕ) → Type 0
 KeepsWriteCounts before now = (call : ShelfCall) → IsWriteCall call → now call ≡ before call
+
+-- what is held stays, no count falls, and none of a writing call changes
+pub record OnlyReads (held_before held_now : Option Files) (before now : ShelfCall → ℕ) : Type 0 where
+  pub same : held_now ≡ held_before
+  pub later : NoneFell before now
+  pub others : KeepsWriteCounts before now
+
+-- but for a fault, at most so many bytes are handed out
+abbrev pub TakesAtMost : {T : Type 0} → ℕ → Result T WavFail → ℕ → ℕ → Type 0
+TakesAtMost most (Err (ReadFault call)) before now = before ≤ now
+TakesAtMost most result before now = (before ≤ now) × (now ≤ before + most)
 
 -- but for a fault, at most the file's length is handed out
 abbrev pub TakesWithin : Option Files → List ℕ → Result WavAt WavFail → ℕ → ℕ → Type 0

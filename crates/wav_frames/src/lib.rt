@@ -2,11 +2,16 @@
 //! and the header before the words of a file that is written.
 #![tactic(auto)]
 
+mod chunks;
+mod fail;
+mod format;
 mod header;
 mod opening;
+mod pieces;
 
+pub use fail::{WavAt, WavFail, WavKind};
 pub use header::canonical_header;
-pub use opening::{WavAt, WavFail, WavKind, open_wav};
+pub use opening::open_wav;
 
 #[cfg(test)]
 mod tests {

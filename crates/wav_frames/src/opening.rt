@@ -1,55 +1,43 @@
-// Where the words of a file stand.
-ghost use Rattle.std.specs.Prelude.{◌≡◌, ◌≤◌, ◌+◌, ◌*◌, IfOk, IfSome, ℕ};
+// Opening a file by its name.
+ghost use Rattle.std.specs.Prelude.{◌≡◌, ◌+◌, ◌-◌, ◌^◌, ◌<◌, ◌≤◌, min, length, take, drop, IsTrue, Ok, IfOk, IfSome};
+ghost use Rattle.std.specs.Str.{bytes_eq};
+ghost use Rattle.std.specs.Option.{ForSome};
 ghost use Rattle.std.specs.FinMap.{get};
-ghost use Rattle.rip_outside.specs.Files.{Files, bytes_at};
+ghost use Rattle.rip_outside.specs.Files.{bytes_at};
 ghost use Rattle.rip_outside.specs.Causes.{NoneFell};
-ghost use Rattle.wav_frames.specs.Opening.{IsInFile, Opens, FaultHasCause, KeepsWriteCounts, TakesWithin, plain_words};
+ghost use Rattle.wav_frames.specs.Opening.{FaultHasCause, IsInFile, KeepsWriteCounts, OnlyReads, Opens, TakesAtMost, TakesWithin, Tells};
 
-use crate::header::canonical_header;
+use crate::chunks::find_data;
+use crate::fail::{WavAt, WavFail, WavKind};
+use crate::pieces::read_piece;
 use rip_outside::{Shelf, ShelfCall};
 
-/// Where the words of a file begin, in bytes, and how many there are.
-#[derive(Clone, Copy, Debug, PartialEq, Eq)]
-pub struct WavAt {
-    pub data_at: u64,
-    pub words: u64,
-}
-
-/// Why a file isn't read as a WAV.
-#[derive(Clone, Copy, Debug, PartialEq, Eq)]
-pub enum WavKind {
-    /// It isn't exactly a header as it is written here and its words.
-    NotPlain,
-}
-
-/// Why a WAV wasn't opened.
-#[derive(Clone, Copy, Debug, PartialEq, Eq)]
-pub enum WavFail {
-    /// No file has the name.
-    Missing,
-    /// The file is refused, with the place in bytes where that shows.
-    Refused { kind: WavKind, at: u64 },
-    /// A call of the shelf failed.
-    ReadFault { call: ShelfCall },
-}
-
-// The words of a file of this many bytes that is a header and whole samples.
-fn words_of_size(size: u64) -> Option<u64>
-    ensures { result ≡ plain_words size }
+// Whether four bytes stand at a place of a file of this length.
+fn has_mark<S: Shelf>(
+    shelf: &mut S,
+    name: &str,
+    size: u64,
+    at: u64,
+    mark: [u8; 4],
+) -> Result<bool, WavFail>
+    requires inside { ForSome (S.held shelf.old) (λ files. size ≡ length (bytes_at name.now files)) }
+    requires fits { at + 4 < 2 ^ 64 }
+    ensures answer { ForSome (S.held shelf.old) (λ files. Tells result (Ok (bytes_eq (take 4 (drop at (bytes_at name.now files))) mark))) }
+    ensures only { OnlyReads (S.held shelf.old) (S.held shelf.new) (S.faults shelf.old) (S.faults shelf.new) }
+    ensures cause { FaultHasCause (S.faults shelf.old) (S.faults shelf.new) result }
+    ensures long { IfOk result (λ has. IsTrue has → at + 4 ≤ size) }
+    ensures taken { TakesAtMost (min 4 (size - at)) result (S.taken shelf.old) (S.taken shelf.new) }
 {
-    if size < 44 || (size - 44) % 4 != 0 || size > 1_047_816_044 {
-        None
-    } else {
-        Some((size - 44) / 2)
+    if size < at + 4 {
+        return Ok(false);
     }
+    let mut found = [0; 4];
+    read_piece(shelf, name, at, &mut found)?;
+    Ok(found == mark)
 }
-
-const NOT_PLAIN: WavFail = WavFail::Refused {
-    kind: WavKind::NotPlain,
-    at: 0,
-};
 
 /// Where the words of the file of this name stand.
+#[tactic(auto, unfolding(crate::specs::Chunks::wav_reading))]
 pub fn open_wav<S: Shelf>(shelf: &mut S, name: &str) -> Result<WavAt, WavFail>
     ensures answer { IfSome (S.held shelf.old) (λ files. Opens result (get files name.now)) }
     ensures inside { IfOk result IsInFile }
@@ -68,15 +56,17 @@ pub fn open_wav<S: Shelf>(shelf: &mut S, name: &str) -> Result<WavAt, WavFail>
             });
         }
     };
-    let words = words_of_size(size).ok_or(NOT_PLAIN)?;
-    let mut header = [0; 44];
-    if shelf.read_at(name, 0, &mut header).is_err() {
-        return Err(WavFail::ReadFault {
-            call: ShelfCall::ReadAt,
+    if !has_mark(shelf, name, size, 0, *b"RIFF")? {
+        return Err(WavFail::Refused {
+            kind: WavKind::NotRiff,
+            at: 0,
         });
     }
-    if header != canonical_header(words) {
-        return Err(NOT_PLAIN);
+    if !has_mark(shelf, name, size, 8, *b"WAVE")? {
+        return Err(WavFail::Refused {
+            kind: WavKind::NotWave,
+            at: 8,
+        });
     }
-    Ok(WavAt { data_at: 44, words })
+    find_data(shelf, name, size)
 }

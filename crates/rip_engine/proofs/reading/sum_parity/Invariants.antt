@@ -1,22 +1,21 @@
 use Rattle.std.proofs.Common.{◌≡◌, ◌-◌, ◌≤◌, take, vec_len}
 use Rattle.std.specs.Prelude.{IfSome}
-use Rattle.rip_outside.specs.Files.{bytes_at}
 use Rattle.rip_outside.specs.Causes.{NoneFell}
 use Rattle.syndrome_stream.specs.Registers.{StandsFor}
-use Rattle.wav_frames.specs.Opening.{wav_words}
+use Rattle.image_mender.specs.Joined.{joined_words}
 use Rattle.rip_engine.proofs.reading.sum_parity.Given as goal
 
 abbrev pub invariant-pieces : goal.invariant-pieces
 invariant-pieces g l = record {
-  within : l.at ≤ l.wav.words;
-  bytes : vec_len l.bytes ≡ 131072;
+  within : l.at ≤ l.all;
+  scratch : vec_len l.scratch ≡ 131072;
   words : vec_len l.words ≡ 65536;
   sectors : l.registers.sectors ≡ l.fn.shape;
   position : l.registers.position ≡ l.at;
   same : g.S.Shelf.held l.shelf ≡ g.S.Shelf.held l.fn.shelf;
   later : NoneFell (g.S.Shelf.faults l.fn.shelf) (g.S.Shelf.faults l.shelf);
-  stands : IfSome (g.S.Shelf.held l.fn.shelf) (λ files. StandsFor 8 l.registers (take l.at (wav_words (bytes_at l.input files) l.wav)));
+  stands : IfSome (g.S.Shelf.held l.fn.shelf) (λ files. StandsFor 8 l.registers (take l.at (joined_words l.image files)));
 }
 
 abbrev pub decreases-pieces : goal.decreases-pieces
-decreases-pieces g l = l.wav.words - l.at
+decreases-pieces g l = l.all - l.at

@@ -6,12 +6,12 @@ use Rattle.rip_outside.proofs.FilesLaws.{if_told_weaker}
 use Rattle.disc_toc.specs.Toc.{Toc, toc_of}
 use Rattle.disc_toc.specs.declared.layout.Layout.{Layout}
 use Rattle.column_map.specs.declared.shape.Shape.{Shape}
-use Rattle.wav_frames.specs.declared.opening.WavAt.{WavAt}
+use Rattle.wav_frames.specs.declared.fail.WavAt.{WavAt}
 use Rattle.rip_engine.specs.declared.steps.Stop.{Stop}
 use Rattle.wav_frames.specs.Opening.{wav_words}
 use Rattle.wav_frames.proofs.ReadingLaws.{length-wav_words}
 use Rattle.parity_store.specs.Put.{after_put}
-use Rattle.rip_engine.specs.Command.{part_of}
+use Rattle.rip_words.specs.Command.{part_of}
 use Rattle.rip_engine.specs.Steps.{opened, laid_out, free, Does}
 use Rattle.rip_engine.specs.Outcome.{Outcome, Then, done, record_of}
 use Rattle.rip_engine.specs.Texts.{registered_line}

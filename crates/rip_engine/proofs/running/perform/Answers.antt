@@ -1,6 +1,6 @@
 use Rattle.std.proofs.Common.{◌≡◌, Ok, rules}
-use Rattle.rip_engine.specs.Command.{command_reading, texts}
-use Rattle.rip_engine.specs.declared.words.Command.TheVariants.{Register}
+use Rattle.rip_words.specs.Command.{command_reading, texts}
+use Rattle.rip_words.specs.declared.Command.TheVariants.{Register}
 use Rattle.rip_engine.proofs.running.perform.Goals as goal
 
 pub returns-in-Ok-Register-clause-leaves : goal.returns-in-Ok-Register-clause-leaves

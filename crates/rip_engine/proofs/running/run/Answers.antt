@@ -1,5 +1,5 @@
 use Rattle.rip_outside.specs.Seen.{seen}
-use Rattle.rip_engine.specs.Command.{command_reading, texts}
+use Rattle.rip_words.specs.Command.{command_reading, texts}
 use Rattle.rip_engine.proofs.StoredLaws.{stored_by}
 use Rattle.rip_engine.proofs.Ending.{decides, read_has_cause, write_has_cause, sink_has_cause, memory_keeps, nothing_written, completes}
 use Rattle.rip_engine.proofs.running.run.Goals as goal

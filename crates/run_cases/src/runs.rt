@@ -10,7 +10,7 @@ use std::test::Fail;
 use wav_frames::canonical_header;
 
 // The WAV file of these words.
-fn wav(alloc: Global, words: &[u16]) -> Result<Vec<u8>, Fail>
+pub fn wav(alloc: Global, words: &[u16]) -> Result<Vec<u8>, Fail>
     requires { length words.now ≤ 523908000 }
 {
     let mut bytes = Vec::new(alloc);
@@ -22,7 +22,7 @@ fn wav(alloc: Global, words: &[u16]) -> Result<Vec<u8>, Fail>
 }
 
 // Samples whose two words are both the sample's number.
-fn ramp(alloc: Global, samples: u16) -> Result<Vec<u16>, Fail> {
+pub fn ramp(alloc: Global, samples: u16) -> Result<Vec<u16>, Fail> {
     let mut words = Vec::new(alloc);
     for n in 0..samples {
         words.push(n)?;
@@ -46,7 +46,7 @@ fn fill_zeros(
 }
 
 // Runs the words of a line, which single blanks part. The put with this number fails, or none at 0.
-fn ran(
+pub fn ran(
     alloc: Global,
     files: &mut MemoryShelf,
     line: &str,
@@ -62,7 +62,7 @@ fn ran(
     Ok((status, out.bytes().to_vec(alloc)?))
 }
 
-fn assert_ran(
+pub fn assert_ran(
     rt: &impl Abort,
     alloc: Global,
     files: &mut MemoryShelf,
@@ -167,7 +167,7 @@ const REFUSALS: [(&str, u8, &str); 22] = [
     ("register w.wav store/", 10, "usage word 2\n"),
     ("register w.wav r.rpar --npar=8", 10, "usage word 3\n"),
     ("register gone.wav r.rpar", 11, "missing gone.wav\n"),
-    ("register flac r.rpar", 13, "wav flac at 0 NotPlain\n"),
+    ("register flac r.rpar", 13, "wav flac at 0 NotRiff\n"),
     ("register 29.wav r.rpar", 14, "layout TooShort sectors 29\n"),
     (
         "register none.wav r.rpar",

@@ -4,10 +4,10 @@ use Rattle.std.specs.List.{ends_with}
 use Rattle.std.specs.Str.{bytes_eq, str_eq_ignore_ascii_case}
 use Rattle.std.specs.String.{string_bytes}
 use Rattle.std.specs.declared.alloc.Global.{Global}
-use Rattle.rip_engine.specs.declared.words.Command.{Command}
-use Rattle.rip_engine.specs.declared.words.Command.TheVariants.{Register}
-use Rattle.rip_engine.specs.declared.words.WordsFail.{WordsFail}
-use Rattle.rip_engine.specs.declared.words.WordsFail.TheVariants.{Usage, Oom}
+use Rattle.rip_words.specs.declared.Command.{Command}
+use Rattle.rip_words.specs.declared.Command.TheVariants.{Register}
+use Rattle.rip_words.specs.declared.WordsFail.{WordsFail}
+use Rattle.rip_words.specs.declared.WordsFail.TheVariants.{Usage, Oom}
 
 abbrev pub texts : List (String Global) → List (List ℕ)
 texts words = map string_bytes words

@@ -1,7 +1,9 @@
-// The words of the command line.
+//! The words of the command line: the command that they are, or the index of the first that breaks a rule.
+#![tactic(auto)]
+
 ghost use Rattle.std.specs.Prelude.{◌≡◌, IfOk, IsOkUnless};
 ghost use Rattle.std.specs.String.{string_bytes};
-ghost use Rattle.rip_engine.specs.Command.{Reads, command_reading, end_words, is_folder, is_input, is_name, is_record, is_sheet, record_words, register_words, texts};
+ghost use Rattle.rip_words.specs.Command.{Reads, command_reading, end_words, is_folder, is_input, is_name, is_record, is_sheet, record_words, register_words, texts};
 
 use rip_outside::Name;
 use std::alloc::Global;
