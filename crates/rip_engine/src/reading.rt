@@ -7,8 +7,7 @@ ghost use Rattle.syndrome_stream.specs.Parity.{image_parity};
 ghost use Rattle.image_mender.specs.Joined.{AreInFiles, joined_words, word_count};
 ghost use Rattle.rip_engine.specs.Steps.{OnlyReads};
 
-use crate::Stop;
-use crate::steps::name_of;
+use crate::steps::{Stop, name_of};
 use column_map::Shape;
 use image_mender::{Image, Part};
 use rip_outside::{Oom, Shelf, ShelfCall};

@@ -14,10 +14,9 @@ ghost use Rattle.rip_engine.specs.Steps.{StopsWithCause, OnlyReads};
 ghost use Rattle.rip_engine.specs.Texts.{registered_line};
 ghost use Rattle.rip_engine.specs.Outcome.{IsRegisterOutcome, Leaves, done, record_of};
 
-use crate::{
-    Stop, check_free, lay_out, open_input, part_name, registered_text, sole_image, sum_parity,
-    write_out,
-};
+use crate::reading::{sole_image, sum_parity};
+use crate::status::registered_text;
+use crate::steps::{Stop, check_free, lay_out, open_input, part_name, write_out};
 use column_map::Shape;
 use disc_toc::Layout;
 use parity_store::{Parity, Record, record_bytes};

@@ -6,7 +6,9 @@ ghost use Rattle.rip_engine.specs.Steps.{StopsWithCause};
 ghost use Rattle.rip_engine.specs.Outcome.{IsOutcomeOf, Leaves, written_by};
 ghost use Rattle.rip_engine.specs.Run.{FaultsOfCommand, Reported, Concluded, OutcomeDecides, ReadFaultHasCause, WriteFaultHasCause, SinkFaultHasCause, WantOfMemoryKeeps, NothingWritten, Completes, StoresParity};
 
-use crate::{Status, Stop, refusal_text, register};
+use crate::registering::register;
+use crate::status::{Status, refusal_text};
+use crate::steps::Stop;
 use rip_outside::{Shelf, Sink, Text};
 use rip_words::{Command, WordsFail, read_words};
 use std::alloc::Global;

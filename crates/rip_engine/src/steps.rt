@@ -11,7 +11,7 @@ ghost use Rattle.rip_words.specs.Command.{part_of};
 ghost use Rattle.rip_engine.specs.Steps.{opened, laid_out, free, stop_of, Does, OnlyRefuses, ReadsWithCause, StopsWithCause};
 ghost use Rattle.rip_engine.specs.Outcome.{Leaves, done};
 
-use crate::Status;
+use crate::status::Status;
 use column_map::Shape;
 use disc_toc::{Layout, LayoutFail, LayoutKind, one_track};
 use parity_store::{PutFail, put};

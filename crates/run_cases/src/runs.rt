@@ -225,23 +225,25 @@ const FAULTS: [(ShelfCall, u32, bool); 8] = [
 fn each_failed_call_is_named(rt: HostRuntime) -> Result<(), Fail> {
     let alloc = rt.alloc();
     let mut files = MemoryShelf::new(alloc);
-    fill_zeros(alloc, &mut files, "w.wav", 35_280)?;
-    let line = "register w.wav r.rpar";
+    fill_zeros(alloc, &mut files, "z.wav", 117_600)?;
+    let line = "register z.wav r.rpar";
     for (call, nth, reads) in FAULTS {
         files.fail_on(call, nth)?;
         let (status, text) = ran(alloc, &mut files, line, 0)?;
         if reads {
+            assert!(rt; status.number() == 30);
             assert!(rt; status == Status::ReadFault { call });
             assert!(rt; text.as_slice() == b"read fault\n".as_slice());
         } else {
+            assert!(rt; status.number() == 31);
             assert!(rt; status == Status::WriteFault { call });
             assert!(rt; text.as_slice() == b"write fault\n".as_slice());
         }
         assert!(rt; files.bytes("r.rpar").is_none());
     }
     let (status, text) = ran(alloc, &mut files, line, 1)?;
-    assert!(rt; status == Status::SinkFault);
+    assert!(rt; status == Status::SinkFault && status.number() == 32);
     assert!(rt; text.is_empty());
-    assert!(rt; files.bytes("r.rpar").is_some());
+    assert!(rt; is_record_of_zeros(files.bytes("r.rpar")));
     Ok(())
 }
