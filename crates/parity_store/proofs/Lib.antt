@@ -1,2 +1,8 @@
+pub mod FindingLaws
+pub mod LayoutChecks
+pub mod PieceLaws
 pub mod PutLaws
+pub mod ReadingLaws
 pub mod RecordLaws
+pub mod SpellingLaws
+pub mod WrittenLaws

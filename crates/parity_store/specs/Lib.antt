@@ -1,2 +1,5 @@
+pub mod Finding
+pub mod Pieces
 pub mod Put
+pub mod Reading
 pub mod Record

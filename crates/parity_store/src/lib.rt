@@ -1,8 +1,13 @@
-//! Stored parity: the bytes of a record, and how a file is put under its name.
+//! Stored parity: the bytes of a record, how they are read and found, and how a file is put under its name.
 #![tactic(auto)]
 
+mod finding;
+mod pieces;
+mod reading;
 mod record;
 mod storing;
 
+pub use finding::{FindFail, find};
+pub use reading::{RecordFail, RecordKind, read_record};
 pub use record::{Parity, Record, record_bytes};
 pub use storing::{PutFail, put};

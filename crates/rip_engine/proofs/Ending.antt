@@ -35,7 +35,7 @@ then_one (Ok found) files next a b one is also = one found is also
 -- The words and the files have one outcome.
 pub one_outcome : (read : Result Command ℕ) (files : Files) (a b : Outcome) → IsOutcomeOf read files a → IsOutcomeOf read files b → a ≡ b
 one_outcome (Err word) files a b is also = is ∙ sym also
-one_outcome (Ok (Register input rec)) files a b is also =
+one_outcome (Ok (Register input rec npar)) files a b is also =
     then_one (opened input files) files _ a b
     (λ words. then_one (laid_out (length words)) files _ a b (λ toc. then_one (free rec (input ∷ []) files) files _ a b (λ _ is also. is ∙ sym also)))
     is also
@@ -43,7 +43,7 @@ one_outcome (Ok (Register input rec)) files a b is also =
 -- a command that has no output leaves the files
 no_output : (read : Result Command ℕ) (files : Files) (a : Outcome) → (IsSome (written_by read) → ⊥) → IsOutcomeOf read files a → a.files ≡ files
 no_output (Err word) files a none is = ap (λ (o : Outcome). o.files) is
-no_output (Ok (Register input rec)) files a none is = absurd (none refl)
+no_output (Ok (Register input rec npar)) files a none is = absurd (none refl)
 
 module _ (read : Result Command ℕ) (before after : Seen) (status : Status) where
   pub decides : (p : Result (List ℕ) Stop) → Came read before after p status → OutcomeDecides read before after status

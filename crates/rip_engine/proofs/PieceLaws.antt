@@ -4,7 +4,7 @@ use Rattle.std.specs.Prelude.{slice_range, Option, IfSome}
 use Rattle.std.proofs.Math.Seq.{take-add}
 use Rattle.std.proofs.lemmas.List.{take_all}
 use Rattle.rip_outside.specs.Files.{Files}
-use Rattle.rip_outside.proofs.FilesLaws.{if_told_both, if_told_weaker}
+use Rattle.rip_outside.proofs.FilesLaws.{if_told_both}
 use Rattle.image_mender.specs.declared.image.Part.{Part}
 use Rattle.image_mender.specs.Joined.{AreInFiles, IsInFile, joined_words, part_words}
 use Rattle.syndrome_stream.specs.Registers.{Kept, StandsFor}
@@ -17,28 +17,28 @@ one_more_piece words i n =
     ap (λ k. take i words ++ take k (drop i words)) size ∙ sym (take-add i n words)
 
 -- registers that stand for the words read so far stand for those of the next piece too
-pub stands_more : (o : Option Files) (words : Files → List ℕ) (i n : ℕ) (before now : Kept) (old piece : List ℕ) → length old ≡ n
-    → IfSome o (λ files. StandsFor 8 before (take i (words files)))
+pub stands_more : (count : ℕ) (o : Option Files) (words : Files → List ℕ) (i n : ℕ) (before now : Kept) (old piece : List ℕ) → length old ≡ n
+    → IfSome o (λ files. StandsFor count before (take i (words files)))
     → IfSome o (λ files. piece ≡ slice_range (words files) i (i + length old))
-    → ((y : List ℕ) → StandsFor 8 before y → StandsFor 8 now (y ++ piece))
-    → IfSome o (λ files. StandsFor 8 now (take (i + n) (words files)))
-stands_more o words i n before now old piece size stands is absorbs =
-    if_told_both o _ (λ files. piece ≡ slice_range (words files) i (i + length old)) (λ files. StandsFor 8 now (take (i + n) (words files)))
+    → ((y : List ℕ) → StandsFor count before y → StandsFor count now (y ++ piece))
+    → IfSome o (λ files. StandsFor count now (take (i + n) (words files)))
+stands_more count o words i n before now old piece size stands is absorbs =
+    if_told_both o _ (λ files. piece ≡ slice_range (words files) i (i + length old)) (λ files. StandsFor count now (take (i + n) (words files)))
     (λ files so_far here.
-    let P : List ℕ → Type 0 = λ y. StandsFor 8 now y in
+    let P : List ℕ → Type 0 = λ y. StandsFor count now y in
     subst P
     (ap (λ x. take i (words files) ++ x) (here ∙ ap (λ m. slice_range (words files) i (i + m)) size) ∙ one_more_piece (words files) i n)
     (absorbs (take i (words files)) so_far))
     stands is
 
 -- the parity that the registers have of all words
-pub parity_of_all : (o : Option Files) (words : Files → List ℕ) (i c d : ℕ) (kept : Kept) (rows : List (List ℕ)) → c ≡ d
+pub parity_of_all : (count : ℕ) (o : Option Files) (words : Files → List ℕ) (i c d : ℕ) (kept : Kept) (rows : List (List ℕ)) → c ≡ d
     → IfSome o (λ files. length (words files) ≤ i)
-    → IfSome o (λ files. StandsFor 8 kept (take i (words files)))
-    → ((y : List ℕ) → StandsFor 8 kept y → rows ≡ image_parity 8 c y)
-    → IfSome o (λ files. rows ≡ image_parity 8 d (words files))
-parity_of_all o words i c d kept rows same all stands finished = if_told_both o _ _ _
-    (λ files end so_far. finished _ so_far ∙ ap₂ (λ c y. image_parity 8 c y) same (take_all i (words files) end))
+    → IfSome o (λ files. StandsFor count kept (take i (words files)))
+    → ((y : List ℕ) → StandsFor count kept y → rows ≡ image_parity count c y)
+    → IfSome o (λ files. rows ≡ image_parity count d (words files))
+parity_of_all count o words i c d kept rows same all stands finished = if_told_both o _ _ _
+    (λ files end so_far. finished _ so_far ∙ ap₂ (λ c y. image_parity count c y) same (take_all i (words files) end))
     all stands
 
 -- ---- a rip that is one file

@@ -9,7 +9,7 @@ use Rattle.syndrome_stream.specs.Parity.{image_parity}
 use Rattle.disc_toc.specs.Toc.{Toc}
 use Rattle.parity_store.specs.Put.{after_put}
 use Rattle.parity_store.specs.Record.{record_bytes_of}
-use Rattle.rip_words.specs.Command.{output_of, part_of}
+use Rattle.rip_words.specs.Command.{parity_words, output_of, part_of}
 use Rattle.rip_engine.specs.Steps.{opened, laid_out, free}
 use Rattle.rip_engine.specs.Texts.{refusal_line, registered_line}
 use Rattle.rip_engine.specs.declared.status.Status.{Status}
@@ -43,17 +43,17 @@ Then (Ok found) files next outcome = next found outcome
 abbrev pub record_of : ℕ → Toc → List ℕ → List ℕ
 record_of count toc words = record_bytes_of toc count (image_parity count (per_column toc.sectors) words)
 
--- `register INPUT REC` stores the record of the rip under the name REC.
-abbrev pub IsRegisterOutcome : List ℕ → List ℕ → Files → Outcome → Type 0
-IsRegisterOutcome input rec files =
+-- `register INPUT REC` stores the record of the rip under the name REC, with `count` parity words for each column.
+abbrev pub IsRegisterOutcome : List ℕ → List ℕ → ℕ → Files → Outcome → Type 0
+IsRegisterOutcome input rec count files =
     Then (opened input files) files (λ words.
     Then (laid_out (length words)) files (λ toc.
     Then (free rec (input ∷ []) files) files (λ _.
-    λ outcome. outcome ≡ done (registered_line rec toc.sectors 8) (after_put (part_of rec) rec (record_of 8 toc words) files))))
+    λ outcome. outcome ≡ done (registered_line rec toc.sectors count) (after_put (part_of rec) rec (record_of count toc words) files))))
 
 -- one case for each command
 abbrev pub IsCommandOutcome : Command → Files → Outcome → Type 0
-IsCommandOutcome (Register input rec) files outcome = IsRegisterOutcome input rec files outcome
+IsCommandOutcome (Register input rec npar) files outcome = IsRegisterOutcome input rec (parity_words npar) files outcome
 
 -- The outcome of the words, by their reading, over these files. At most one outcome meets it.
 abbrev pub IsOutcomeOf : Result Command ℕ → Files → Outcome → Type 0

@@ -7,7 +7,8 @@ use Rattle.rip_outside.specs.Causes.{Rose, IsReadCall, IsWriteCall}
 use Rattle.rip_outside.specs.Seen.{Seen}
 use Rattle.rip_outside.specs.declared.fault.ShelfCall.{ShelfCall}
 use Rattle.disc_toc.specs.Toc.{Toc}
-use Rattle.rip_words.specs.Command.{part_of}
+use Rattle.rip_words.specs.declared.Npar.{Npar}
+use Rattle.rip_words.specs.Command.{parity_words, part_of}
 use Rattle.rip_engine.specs.Steps.{opened, laid_out}
 use Rattle.rip_engine.specs.Outcome.{Outcome, record_of, IsOutcomeOf, written_by, SameButPart, SameButOutput}
 use Rattle.rip_engine.specs.Texts.{registered_line, refusal_line, read_fault_line, write_fault_line}
@@ -126,15 +127,15 @@ Completes read before after status =
 
 -- What `register` stores when it is done: the record's name holds the record of the rip, which is its layout and the parity of its
 -- words; the part isn't held; and the text went out.
-pub record Stored (input rec : List ℕ) (files now : Files) (text : List ℕ) : Type 0 where
+pub record Stored (input rec : List ℕ) (count : ℕ) (files now : Files) (text : List ℕ) : Type 0 where
   pub words : List ℕ
   pub toc : Toc
   pub opens : opened input files ≡ Ok words
   pub lays_out : laid_out (length words) ≡ Ok toc
-  pub holds : get now rec ≡ Some (record_of 8 toc words)
+  pub holds : get now rec ≡ Some (record_of count toc words)
   pub part_gone : get now (part_of rec) ≡ None
-  pub prints : text ≡ registered_line rec toc.sectors 8
+  pub prints : text ≡ registered_line rec toc.sectors count
 
 abbrev pub StoresParity : Result Command ℕ → Seen → Seen → Status → Type 0
-StoresParity read before after status = (input rec : List ℕ) → read ≡ Ok (Register input rec) → status ≡ Done →
-    IfSome before.held (λ files. (now : Files) × (text : List ℕ) × (after.held ≡ Some now) × Wrote text before.told after.told × Stored input rec files now text)
+StoresParity read before after status = (input rec : List ℕ) (npar : Npar) → read ≡ Ok (Register input rec npar) → status ≡ Done →
+    IfSome before.held (λ files. (now : Files) × (text : List ℕ) × (after.held ≡ Some now) × Wrote text before.told after.told × Stored input rec (parity_words npar) files now text)

@@ -5,12 +5,16 @@ ghost use Rattle.rip_outside.specs.Causes.{NoneFell};
 ghost use Rattle.column_map.specs.Columns.{per_column};
 ghost use Rattle.syndrome_stream.specs.Parity.{image_parity};
 ghost use Rattle.image_mender.specs.Joined.{AreInFiles, joined_words, word_count};
+ghost use Rattle.rip_words.specs.Command.{parity_words};
+ghost use Rattle.parity_store.specs.Record.{count_of, rows_of};
 ghost use Rattle.rip_engine.specs.Steps.{OnlyReads};
 
 use crate::steps::{Stop, name_of};
 use column_map::Shape;
 use image_mender::{Image, Part};
+use parity_store::Parity;
 use rip_outside::{Oom, Shelf, ShelfCall};
+use rip_words::Npar;
 use std::alloc::Global;
 use syndrome_stream::{Registers, Table};
 use wav_frames::WavAt;
@@ -56,20 +60,21 @@ pub fn sole_image(alloc: Global, input: &str, wav: WavAt) -> Result<Image, Oom>
 }
 
 /// Reads the rip's words once, in pieces, and sums the parity of its columns.
-pub fn sum_parity<S: Shelf>(
+pub fn sum_parity<const P: usize, S: Shelf>(
     alloc: Global,
     shelf: &mut S,
     image: &Image,
     shape: Shape,
-) -> Result<Table<8>, Stop>
+) -> Result<Table<P>, Stop>
+    requires size { P ≤ 32 }
     requires inside { ForSome (S.held shelf.old) (AreInFiles image.now) }
     requires count { word_count image.now ≡ 1176 * shape }
-    ensures parity { IfSome (S.held shelf.old) (λ files. IfOk result (λ table. table ≡ image_parity 8 (per_column shape) (joined_words image.now files))) }
+    ensures parity { IfSome (S.held shelf.old) (λ files. IfOk result (λ table. table ≡ image_parity P (per_column shape) (joined_words image.now files))) }
     ensures same { S.held shelf.new ≡ S.held shelf.old }
     ensures cause { OnlyReads (S.faults shelf.old) (S.faults shelf.new) result }
     ensures later { NoneFell (S.faults shelf.old) (S.faults shelf.new) }
 {
-    let mut registers = Registers::<8>::new(alloc, shape)?;
+    let mut registers = Registers::<P>::new(alloc, shape)?;
     let mut scratch = zero_bytes(alloc, 2 * PIECE)?;
     let mut words = zero_words(alloc, PIECE)?;
     let all = image.words();
@@ -86,4 +91,36 @@ pub fn sum_parity<S: Shelf>(
         at += count as u64;
     }
     Ok(registers.finish())
+}
+
+/// The parity of the rip, so many words for each column.
+pub fn parity_of<S: Shelf>(
+    alloc: Global,
+    shelf: &mut S,
+    image: &Image,
+    shape: Shape,
+    npar: Npar,
+) -> Result<Parity, Stop>
+    requires inside { ForSome (S.held shelf.old) (AreInFiles image.now) }
+    requires count { word_count image.now ≡ 1176 * shape }
+    ensures size { IfOk result (λ parity. count_of parity ≡ parity_words npar) }
+    ensures parity { IfSome (S.held shelf.old) (λ files. IfOk result (λ parity. rows_of parity ≡ image_parity (parity_words npar) (per_column shape) (joined_words image.now files))) }
+    ensures same { S.held shelf.new ≡ S.held shelf.old }
+    ensures cause { OnlyReads (S.faults shelf.old) (S.faults shelf.new) result }
+    ensures later { NoneFell (S.faults shelf.old) (S.faults shelf.new) }
+{
+    match npar {
+        Npar::Four => match sum_parity::<4, S>(alloc, shelf, image, shape) {
+            Ok(table) => Ok(Parity::Four(table)),
+            Err(stop) => Err(stop),
+        },
+        Npar::Eight => match sum_parity::<8, S>(alloc, shelf, image, shape) {
+            Ok(table) => Ok(Parity::Eight(table)),
+            Err(stop) => Err(stop),
+        },
+        Npar::Sixteen => match sum_parity::<16, S>(alloc, shelf, image, shape) {
+            Ok(table) => Ok(Parity::Sixteen(table)),
+            Err(stop) => Err(stop),
+        },
+    }
 }

@@ -9,18 +9,19 @@ ghost use Rattle.syndrome_stream.specs.Parity.{image_parity};
 ghost use Rattle.disc_toc.specs.Toc.{toc_of};
 ghost use Rattle.wav_frames.specs.Opening.{wav_words};
 ghost use Rattle.parity_store.specs.Put.{after_put};
-ghost use Rattle.rip_words.specs.Command.{part_of};
+ghost use Rattle.rip_words.specs.Command.{part_of, parity_words};
 ghost use Rattle.rip_engine.specs.Steps.{StopsWithCause, OnlyReads};
 ghost use Rattle.rip_engine.specs.Texts.{registered_line};
 ghost use Rattle.rip_engine.specs.Outcome.{IsRegisterOutcome, Leaves, done, record_of};
 
-use crate::reading::{sole_image, sum_parity};
+use crate::reading::{parity_of, sole_image};
 use crate::status::registered_text;
 use crate::steps::{Stop, check_free, lay_out, open_input, part_name, write_out};
 use column_map::Shape;
 use disc_toc::Layout;
-use parity_store::{Parity, Record, record_bytes};
+use parity_store::{Record, record_bytes};
 use rip_outside::{Shelf, Text};
+use rip_words::Npar;
 use std::alloc::Global;
 use wav_frames::WavAt;
 
@@ -34,6 +35,7 @@ fn store<S: Shelf>(
     wav: WavAt,
     layout: Layout,
     shape: Shape,
+    npar: Npar,
 ) -> Result<Text, Stop>
     requires part { part.now ≡ part_of rec.now }
     requires free { ForSome (S.held shelf.old) (λ files. get files rec.now ≡ None) }
@@ -41,15 +43,15 @@ fn store<S: Shelf>(
     requires ends { wav.data_at + 2 * wav.words < 2 ^ 64 }
     requires shape { shape ≡ layout.sectors }
     requires count { wav.words ≡ 1176 * layout.sectors }
-    ensures leaves { IfSome (S.held shelf.old) (λ files. Leaves (λ o. o ≡ done (registered_line rec.now layout.sectors 8) (after_put part.now rec.now (record_of 8 (toc_of layout) (wav_words (bytes_at input.now files) wav)) files)) (Some rec.now) files result (S.held shelf.new)) }
+    ensures leaves { IfSome (S.held shelf.old) (λ files. Leaves (λ o. o ≡ done (registered_line rec.now layout.sectors (parity_words npar)) (after_put part.now rec.now (record_of (parity_words npar) (toc_of layout) (wav_words (bytes_at input.now files) wav)) files)) (Some rec.now) files result (S.held shelf.new)) }
     ensures cause { StopsWithCause (S.faults shelf.old) (S.faults shelf.new) result }
 {
     let sectors = layout.sectors;
     let image = sole_image(alloc, input, wav)?;
-    let table = sum_parity(alloc, shelf, &image, shape)?;
-    let parity = Parity::Eight(table);
+    let parity = parity_of(alloc, shelf, &image, shape, npar)?;
+    let count = parity.count() as u32;
     let bytes = record_bytes(alloc, &Record { layout, parity })?;
-    let text = registered_text(alloc, rec, sectors, 8)?;
+    let text = registered_text(alloc, rec, sectors, count)?;
     write_out(shelf, &bytes, part, rec, text)
 }
 
@@ -59,13 +61,24 @@ pub fn register<S: Shelf>(
     shelf: &mut S,
     input: &str,
     rec: &str,
+    npar: Npar,
 ) -> Result<Text, Stop>
-    ensures leaves { IfSome (S.held shelf.old) (λ files. Leaves (IsRegisterOutcome input.now rec.now files) (Some rec.now) files result (S.held shelf.new)) }
+    ensures leaves { IfSome (S.held shelf.old) (λ files. Leaves (IsRegisterOutcome input.now rec.now (parity_words npar) files) (Some rec.now) files result (S.held shelf.new)) }
     ensures cause { StopsWithCause (S.faults shelf.old) (S.faults shelf.new) result }
 {
     let wav = open_input(alloc, shelf, input)?;
     let (layout, shape) = lay_out(alloc, wav.words)?;
     let part = part_name(alloc, rec)?;
     check_free(alloc, shelf, input, rec, part.as_str())?;
-    store(alloc, shelf, input, rec, part.as_str(), wav, layout, shape)
+    store(
+        alloc,
+        shelf,
+        input,
+        rec,
+        part.as_str(),
+        wav,
+        layout,
+        shape,
+        npar,
+    )
 }

@@ -20,8 +20,8 @@ fn perform<S: Shelf>(alloc: Global, words: &[String], shelf: &mut S) -> Result<T
     ensures reads { FaultsOfCommand (command_reading (texts words.now)) result }
 {
     match read_words(alloc, words) {
-        Ok(Command::Register { input, rec }) => {
-            register(alloc, shelf, input.as_str(), rec.as_str())
+        Ok(Command::Register { input, rec, npar }) => {
+            register(alloc, shelf, input.as_str(), rec.as_str(), npar)
         }
         Err(WordsFail::Usage { word }) => Err(Stop::Refused(Status::Usage { word })),
         Err(WordsFail::Oom) => Err(Stop::Oom),

@@ -3,16 +3,24 @@
 
 ghost use Rattle.std.specs.Prelude.{◌≡◌, IfOk, IsOkUnless};
 ghost use Rattle.std.specs.String.{string_bytes};
-ghost use Rattle.rip_words.specs.Command.{Reads, command_reading, end_words, is_folder, is_input, is_name, is_record, is_sheet, record_words, register_words, texts};
+ghost use Rattle.rip_words.specs.Command.{Reads, command_reading, end_words, is_folder, is_input, is_name, is_record, is_sheet, npar_of, option_words, record_words, register_words, texts};
 
 use rip_outside::Name;
 use std::alloc::Global;
+
+/// How many parity words there are to be for each column.
+#[derive(Clone, Copy, Debug, PartialEq, Eq)]
+pub enum Npar {
+    Four,
+    Eight,
+    Sixteen,
+}
 
 /// What the words ask for.
 #[derive(Debug, Drop, PartialEq, Eq)]
 pub enum Command {
     /// Stores the parity of the rip INPUT under the name REC.
-    Register { input: Name, rec: Name },
+    Register { input: Name, rec: Name, npar: Npar },
 }
 
 /// Why the words are no command.
@@ -70,20 +78,51 @@ fn name_of(alloc: Global, word: &String) -> Result<Name, WordsFail>
     }
 }
 
+// The option that says how many parity words there are to be.
+fn npar_of(word: &str) -> Option<Npar>
+    ensures { result ≡ npar_of word.now }
+{
+    match word {
+        "--npar=4" => Some(Npar::Four),
+        "--npar=8" => Some(Npar::Eight),
+        "--npar=16" => Some(Npar::Sixteen),
+        _ => None,
+    }
+}
+
 fn read_end(
     alloc: Global,
     input: &String,
     rec: &String,
+    npar: Npar,
     words: &[String],
 ) -> Result<Command, WordsFail>
-    ensures { Reads result (end_words (string_bytes input.now) (string_bytes rec.now) (texts words.now)) }
+    ensures { Reads result (end_words (string_bytes input.now) (string_bytes rec.now) npar (texts words.now)) }
 {
     match words {
         [] => Ok(Command::Register {
             input: name_of(alloc, input)?,
             rec: name_of(alloc, rec)?,
+            npar,
         }),
-        [_, ..] => Err(WordsFail::Usage { word: 3 }),
+        [_, ..] => Err(WordsFail::Usage { word: 4 }),
+    }
+}
+
+fn read_option(
+    alloc: Global,
+    input: &String,
+    rec: &String,
+    words: &[String],
+) -> Result<Command, WordsFail>
+    ensures { Reads result (option_words (string_bytes input.now) (string_bytes rec.now) (texts words.now)) }
+{
+    match words {
+        [] => read_end(alloc, input, rec, Npar::Eight, words),
+        [option, rest @ ..] => match npar_of(option.as_str()) {
+            Some(npar) => read_end(alloc, input, rec, npar, rest),
+            None => Err(WordsFail::Usage { word: 3 }),
+        },
     }
 }
 
@@ -96,7 +135,7 @@ fn read_record(alloc: Global, input: &String, words: &[String]) -> Result<Comman
             if !is_record(rec.as_bytes()) {
                 return Err(WordsFail::Usage { word: 2 });
             }
-            read_end(alloc, input, rec, rest)
+            read_option(alloc, input, rec, rest)
         }
     }
 }

@@ -5,6 +5,8 @@
 #[cfg(test)]
 mod pieces;
 #[cfg(test)]
+mod records;
+#[cfg(test)]
 mod runs;
 #[cfg(test)]
 mod wavs;

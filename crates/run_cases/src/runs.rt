@@ -152,8 +152,40 @@ fn parity_of_one_word_a_column_is_that_word(rt: HostRuntime) -> Result<(), Fail>
     Ok(())
 }
 
+// A line of words, the text of its run, and the length of the record and the parity words of a column that it names.
+const SIZES: [(&str, &str, usize, u8); 2] = [
+    (
+        "register z.wav 4.rpar --npar=4",
+        "registered 4.rpar sectors 100 npar 4\n",
+        94_136,
+        4,
+    ),
+    (
+        "register z.wav 16.rpar --npar=16",
+        "registered 16.rpar sectors 100 npar 16\n",
+        376_376,
+        16,
+    ),
+];
+
+#[test]
+fn a_record_has_the_size_that_is_asked_for(rt: HostRuntime) -> Result<(), Fail> {
+    let alloc = rt.alloc();
+    let mut files = MemoryShelf::new(alloc);
+    fill_zeros(alloc, &mut files, "z.wav", 117_600)?;
+    for case in &SIZES {
+        assert_ran(&rt, alloc, &mut files, case.0, 0, case.1)?;
+    }
+    for (name, case) in [("4.rpar", &SIZES[0]), ("16.rpar", &SIZES[1])] {
+        let record = files.bytes(name);
+        assert!(rt; record.map(|bytes| bytes.len()) == Some(case.2));
+        assert!(rt; record.and_then(|bytes| bytes.get(8).copied()) == Some(case.3));
+    }
+    Ok(())
+}
+
 // A line of words, the number with which its run ends, and its text.
-const REFUSALS: [(&str, u8, &str); 22] = [
+const REFUSALS: [(&str, u8, &str); 23] = [
     ("", 10, "usage word 0\n"),
     ("verify w.wav r.rpar", 10, "usage word 0\n"),
     ("register", 10, "usage word 1\n"),
@@ -165,7 +197,8 @@ const REFUSALS: [(&str, u8, &str); 22] = [
     ("register w.wav ", 10, "usage word 2\n"),
     ("register w.wav -r", 10, "usage word 2\n"),
     ("register w.wav store/", 10, "usage word 2\n"),
-    ("register w.wav r.rpar --npar=8", 10, "usage word 3\n"),
+    ("register w.wav r.rpar --npar=32", 10, "usage word 3\n"),
+    ("register w.wav r.rpar --npar=8 x", 10, "usage word 4\n"),
     ("register gone.wav r.rpar", 11, "missing gone.wav\n"),
     ("register flac r.rpar", 13, "wav flac at 0 NotRiff\n"),
     ("register 29.wav r.rpar", 14, "layout TooShort sectors 29\n"),

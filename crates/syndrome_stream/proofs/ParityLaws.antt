@@ -1,9 +1,8 @@
 -- Laws of parity: its size, what it depends on, and one more word of a column.
-use Rattle.std.proofs.Common.{◌≡◌, ℕ, suc, ◌+◌, ◌*◌, ◌^◌, ◌<◌, ◌≤◌, List, [], length, get_or, replicate, arith, inl, inr, subst, sym, ap₂, ◌∙◌}
-use Rattle.std.proofs.lemmas.List.{get_or-replicate, get_or_past, length-replicate, ext_get_or}
-use Rattle.std.proofs.lemmas.List.Elements.{All-get_or, All-from_get_or}
+use Rattle.std.proofs.Common.{◌≡◌, ℕ, suc, ◌+◌, ◌*◌, ◌^◌, ◌<◌, ◌≤◌, List, [], length, get_or, replicate, arith, subst, sym, ap₂, ◌∙◌}
+use Rattle.std.proofs.lemmas.List.{get_or-replicate, length-replicate, ext_get_or}
+use Rattle.std.proofs.lemmas.List.Elements.{All-from_get_or}
 use Rattle.std.proofs.lemmas.List.FromFn.{get_or-map-range_with_len, length-map-range_with_len}
-use Rattle.std.proofs.lemmas.Bool.{cases_lt}
 use Rattle.gf16_field.specs.Xor.{◌⊕◌}
 use Rattle.gf16_field.specs.Gf16.{◌⊗◌, alpha_power}
 use Rattle.gf16_field.specs.Column.{column_sum}
@@ -14,12 +13,7 @@ use Rattle.column_map.specs.Image.{AreWords}
 use Rattle.column_map.specs.Columns.{stride}
 use Rattle.syndrome_stream.specs.Parity.{column_words, parity_at, image_parity}
 use Rattle.syndrome_stream.specs.Rows.{IsRow, AreRows}
-
--- each number of a list of words is a word, and so is the 0 past its end
-pub AreWords-get_or : (y : List ℕ) (i : ℕ) → AreWords y → get_or y i 0 < 2 ^ 16
-AreWords-get_or y i h =
-    let zero_word : 0 < 2 ^ 16 = omega arith in
-    elim (cases_lt i (length y)) [ inl low ↦ All-get_or (λ w. w < 2 ^ 16) y i 0 low h | inr past ↦ subst (λ w. w < 2 ^ 16) (sym (get_or_past y i 0 past)) zero_word ]
+use Rattle.syndrome_stream.proofs.RowLaws.{AreWords-get_or}
 
 pub column_sum-lt : (m n : ℕ) (v : ℕ → ℕ) → ((k : ℕ) → k < n → v k < 2 ^ 16) → column_sum m n v < 2 ^ 16
 column_sum-lt m n v words = xor_below-lt 16 n _ (λ k l. product-lt (v k) (alpha_power _) (words k l))

@@ -7,5 +7,6 @@ mod table;
 #[cfg(test)]
 mod tests;
 
+pub use fold::fold_stride;
 pub use registers::Registers;
 pub use table::Table;

@@ -29,14 +29,16 @@ fn ramp(alloc: Global, count: usize) -> Result<Vec<u16>, AllocError>
     Ok(words)
 }
 
-// The parity of an image, whose words come in two pieces.
+// The parity of an image, whose words come in three pieces: the second ends in the middle of a stride and of 32 words.
 fn parity<const P: usize>(alloc: Global, shape: Shape, words: &[u16]) -> Result<Table<P>, Oom>
     requires size { P ≤ 32 }
     requires whole { length words.now ≡ 1176 * shape }
 {
     let mut registers = Registers::new(alloc, shape)?;
-    let (front, back) = words.split_at(words.len() / 3);
+    let (front, rest) = words.split_at(words.len() / 3);
+    let (middle, back) = rest.split_at(12_345.min(rest.len()));
     registers.absorb(front);
+    registers.absorb(middle);
     registers.absorb(back);
     Ok(registers.finish())
 }

@@ -1,5 +1,4 @@
 use Rattle.std.proofs.Common.{◌≡◌, ◌≤◌, ℕ, List, length, take, ap, rules, arith}
-use Rattle.std.specs.Prelude.{IfSome}
 use Rattle.std.proofs.lemmas.List.{length-take-le}
 use Rattle.rip_outside.specs.Files.{Files}
 use Rattle.rip_outside.proofs.FilesLaws.{if_told}
@@ -23,12 +22,12 @@ pieces-preserved g c =
       position = omega (arith, c.absorb.ensures.position);
       same = search rules;
       later = search rules;
-      stands = stands_more (g.S.Shelf.held c.args.shelf.now) words c.pieces.at c.min-count.result c.pieces.registers c.absorb.new.self _ c.read.new.buf size c.pieces.invariant.stands
+      stands = stands_more g.row.P (g.S.Shelf.held c.args.shelf.now) words c.pieces.at c.min-count.result c.pieces.registers c.absorb.new.self _ c.read.new.buf size c.pieces.invariant.stands
           (rw c.pieces.invariant.same at c.in-Ok.ensures.words) c.absorb.ensures.stands;
     }
 
 pub returns-clause-parity : goal.returns-clause-parity
 returns-clause-parity g c =
     let words : Files → List ℕ = λ files. joined_words c.args.image.now files in
-    parity_of_all (g.S.Shelf.held c.args.shelf.now) words c.pieces.at (per_column c.pieces.registers.sectors) (per_column c.args.shape) c.pieces.registers c.finish.result (ap per_column c.pieces.invariant.sectors)
+    parity_of_all g.row.P (g.S.Shelf.held c.args.shelf.now) words c.pieces.at (per_column c.pieces.registers.sectors) (per_column c.args.shape) c.pieces.registers c.finish.result (ap per_column c.pieces.invariant.sectors)
     (if_told (g.S.Shelf.held c.args.shelf.now) _ (λ files told. let long = length-joined_words c.args.image.now files (c.requires.inside files told) in omega arith)) c.pieces.invariant.stands c.finish.ensures

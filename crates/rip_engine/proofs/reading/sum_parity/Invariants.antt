@@ -14,7 +14,7 @@ invariant-pieces g l = record {
   position : l.registers.position ≡ l.at;
   same : g.S.Shelf.held l.shelf ≡ g.S.Shelf.held l.fn.shelf;
   later : NoneFell (g.S.Shelf.faults l.fn.shelf) (g.S.Shelf.faults l.shelf);
-  stands : IfSome (g.S.Shelf.held l.fn.shelf) (λ files. StandsFor 8 l.registers (take l.at (joined_words l.image files)));
+  stands : IfSome (g.S.Shelf.held l.fn.shelf) (λ files. StandsFor g.row.P l.registers (take l.at (joined_words l.image files)));
 }
 
 abbrev pub decreases-pieces : goal.decreases-pieces

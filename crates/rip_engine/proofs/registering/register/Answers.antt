@@ -11,7 +11,7 @@ use Rattle.rip_engine.specs.declared.steps.Stop.{Stop}
 use Rattle.wav_frames.specs.Opening.{wav_words}
 use Rattle.wav_frames.proofs.ReadingLaws.{length-wav_words}
 use Rattle.parity_store.specs.Put.{after_put}
-use Rattle.rip_words.specs.Command.{part_of}
+use Rattle.rip_words.specs.Command.{parity_words, part_of}
 use Rattle.rip_engine.specs.Steps.{opened, laid_out, free, Does}
 use Rattle.rip_engine.specs.Outcome.{Outcome, Then, done, record_of}
 use Rattle.rip_engine.specs.Texts.{registered_line}
@@ -19,16 +19,16 @@ use Rattle.rip_engine.proofs.Leaving.{stopped, went_on, reads_nothing, refused_w
 use Rattle.rip_engine.proofs.registering.register.Goals as goal
 
 -- what comes of a free name
-abbrev recorded : List ℕ → Files → List ℕ → Toc → Outcome → Type 0
-recorded rec files words toc outcome = outcome ≡ done (registered_line rec toc.sectors 8) (after_put (part_of rec) rec (record_of 8 toc words) files)
+abbrev recorded : ℕ → List ℕ → Files → List ℕ → Toc → Outcome → Type 0
+recorded count rec files words toc outcome = outcome ≡ done (registered_line rec toc.sectors count) (after_put (part_of rec) rec (record_of count toc words) files)
 
 -- what comes of a layout
-abbrev checked : List ℕ → List ℕ → Files → List ℕ → Toc → Outcome → Type 0
-checked input rec files words toc = Then (free rec (input ∷ []) files) files (λ _. recorded rec files words toc)
+abbrev checked : ℕ → List ℕ → List ℕ → Files → List ℕ → Toc → Outcome → Type 0
+checked count input rec files words toc = Then (free rec (input ∷ []) files) files (λ _. recorded count rec files words toc)
 
 -- what comes of the words
-abbrev laid : List ℕ → List ℕ → Files → List ℕ → Outcome → Type 0
-laid input rec files words = Then (laid_out (length words)) files (checked input rec files words)
+abbrev laid : ℕ → List ℕ → List ℕ → Files → List ℕ → Outcome → Type 0
+laid count input rec files words = Then (laid_out (length words)) files (checked count input rec files words)
 
 -- the layout of the words that were opened
 abbrev Laid : Option Files → List ℕ → WavAt → Result (Layout × Shape) Stop → Type 0
@@ -48,12 +48,13 @@ returns-in_err-layout-clause-leaves g c =
     let h0 = g.S.Shelf.held c.args.shelf.now in
     let input = c.args.input.now in
     let rec = c.args.rec.now in
+    let count = parity_words c.args.npar in
     let wav = c.in_ok-wav.wav in
     let words : Files → List ℕ = λ files. wav_words (bytes_at input files) wav in
     let p = err_from_is_err_and c.from_residual-in_err-layout.result c.from_residual-in_err-layout.ensures.1 in
-    went_on (λ files at. wav_words (bytes_at input files) at) (opened input) (laid input rec) (Some rec) h0 _ c.open_input.result wav c.from_residual-in_err-layout.result
+    went_on (λ files at. wav_words (bytes_at input files) at) (opened input) (laid count input rec) (Some rec) h0 _ c.open_input.result wav c.from_residual-in_err-layout.result
     (search rules) c.open_input.ensures.answer
-    (stopped (λ _ found. toc_of found.0) (λ files. laid_out (length (words files))) (λ files. checked input rec files (words files)) (Some rec) (λ _. 0) (λ _. 0) h0 _ c.lay_out.result p.0 c.from_residual-in_err-layout.result
+    (stopped (λ _ found. toc_of found.0) (λ files. laid_out (length (words files))) (λ files. checked count input rec files (words files)) (Some rec) (λ _. 0) (λ _. 0) h0 _ c.lay_out.result p.0 c.from_residual-in_err-layout.result
     (search rules) p.1 c.open_input.ensures.same (reads_nothing (λ _. 0) (λ _. 0) c.lay_out.result c.lay_out.ensures.cause) (laid_of h0 input wav c.lay_out.result c.in_ok-wav.ensures.inside c.lay_out.ensures.answer))
 
 pub returns-in_err-check_free-clause-leaves : goal.returns-in_err-check_free-clause-leaves
@@ -61,15 +62,16 @@ returns-in_err-check_free-clause-leaves g c =
     let h0 = g.S.Shelf.held c.args.shelf.now in
     let input = c.args.input.now in
     let rec = c.args.rec.now in
+    let count = parity_words c.args.npar in
     let wav = c.in_ok-wav.wav in
     let toc = toc_of c.in_ok-layout.layout in
     let words : Files → List ℕ = λ files. wav_words (bytes_at input files) wav in
     let p = err_from_is_err_and c.from_residual-in_err-check_free.result c.from_residual-in_err-check_free.ensures.1 in
-    went_on (λ files at. wav_words (bytes_at input files) at) (opened input) (laid input rec) (Some rec) h0 _ c.open_input.result wav c.from_residual-in_err-check_free.result
+    went_on (λ files at. wav_words (bytes_at input files) at) (opened input) (laid count input rec) (Some rec) h0 _ c.open_input.result wav c.from_residual-in_err-check_free.result
     (search rules) c.open_input.ensures.answer
-    (went_on (λ _ found. toc_of found.0) (λ files. laid_out (length (words files))) (λ files. checked input rec files (words files)) (Some rec) h0 _ c.lay_out.result (c.in_ok-layout.layout, c.in_ok-layout.shape) c.from_residual-in_err-check_free.result
+    (went_on (λ _ found. toc_of found.0) (λ files. laid_out (length (words files))) (λ files. checked count input rec files (words files)) (Some rec) h0 _ c.lay_out.result (c.in_ok-layout.layout, c.in_ok-layout.shape) c.from_residual-in_err-check_free.result
     (search rules) (laid_of h0 input wav c.lay_out.result c.in_ok-wav.ensures.inside c.lay_out.ensures.answer)
-    (stopped (λ _ _. tt) (free rec (input ∷ [])) (λ files _. recorded rec files (words files) toc) (Some rec) _ _ h0 _ c.check_free.result p.0 c.from_residual-in_err-check_free.result
+    (stopped (λ _ _. tt) (free rec (input ∷ [])) (λ files _. recorded count rec files (words files) toc) (Some rec) _ _ h0 _ c.check_free.result p.0 c.from_residual-in_err-check_free.result
     (search rules) p.1 (c.check_free.ensures.same ∙ c.open_input.ensures.same) c.check_free.ensures.cause (rw c.open_input.ensures.same at c.check_free.ensures.answer)))
 
 pub returns-clause-leaves : goal.returns-clause-leaves
@@ -77,13 +79,14 @@ returns-clause-leaves g c =
     let h0 = g.S.Shelf.held c.args.shelf.now in
     let input = c.args.input.now in
     let rec = c.args.rec.now in
+    let count = parity_words c.args.npar in
     let wav = c.in_ok-wav.wav in
     let toc = toc_of c.in_ok-layout.layout in
     let words : Files → List ℕ = λ files. wav_words (bytes_at input files) wav in
     let part : c.as_str-2.result.now ≡ part_of rec = search rules in
-    went_on (λ files at. wav_words (bytes_at input files) at) (opened input) (laid input rec) (Some rec) h0 _ c.open_input.result wav c.store.result
+    went_on (λ files at. wav_words (bytes_at input files) at) (opened input) (laid count input rec) (Some rec) h0 _ c.open_input.result wav c.store.result
     (search rules) c.open_input.ensures.answer
-    (went_on (λ _ found. toc_of found.0) (λ files. laid_out (length (words files))) (λ files. checked input rec files (words files)) (Some rec) h0 _ c.lay_out.result (c.in_ok-layout.layout, c.in_ok-layout.shape) c.store.result
+    (went_on (λ _ found. toc_of found.0) (λ files. laid_out (length (words files))) (λ files. checked count input rec files (words files)) (Some rec) h0 _ c.lay_out.result (c.in_ok-layout.layout, c.in_ok-layout.shape) c.store.result
     (search rules) (laid_of h0 input wav c.lay_out.result c.in_ok-wav.ensures.inside c.lay_out.ensures.answer)
-    (went_on (λ _ _. tt) (free rec (input ∷ [])) (λ files _. recorded rec files (words files) toc) (Some rec) h0 _ c.check_free.result c.in_ok-check_free.field-0 c.store.result
+    (went_on (λ _ _. tt) (free rec (input ∷ [])) (λ files _. recorded count rec files (words files) toc) (Some rec) h0 _ c.check_free.result c.in_ok-check_free.field-0 c.store.result
     (search rules) (rw c.open_input.ensures.same at c.check_free.ensures.answer) (rw (c.check_free.ensures.same, c.open_input.ensures.same, part) at c.store.ensures.leaves)))
