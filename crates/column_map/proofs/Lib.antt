@@ -1,1 +1,2 @@
+pub mod MendingLaws
 pub mod PlaceLaws

@@ -1,5 +1,5 @@
 -- The columns of an image, and where a rip at an offset has their words.
-use Rattle.std.specs.Prelude.{◌≡◌, ℕ, ◌+◌, ◌-◌, ◌*◌, ◌/◌, ◌<◌, ◌≤◌, suc, ℤ, pos, negsuc, ◌≤ℤ◌}
+use Rattle.std.specs.Prelude.{◌≡◌, ℕ, ◌+◌, ◌-◌, ◌*◌, ◌/◌, ◌<◌, ◌≤◌, List, slice_index, suc, ℤ, pos, negsuc, ◌≤ℤ◌}
 
 -- a stride: the words of 10 sectors, and the number of columns
 abbrev pub stride : ℕ
@@ -36,3 +36,11 @@ pub record IsWordAt (c : ℕ) (d : ℤ) (at j k : ℕ) : Type 0 where
 -- the place is that of a word of a column
 abbrev pub IsCovered : ℕ → ℤ → ℕ → Type 0
 IsCovered c d at = (j : ℕ) × (k : ℕ) × IsWordAt c d at j k
+
+-- a word for each column j and each number k in it
+abbrev pub WordTable : Type 0
+WordTable = ℕ → ℕ → ℕ
+
+-- the word that a rip at the offset d has as word k of column j
+abbrev pub rip_word : List ℕ → ℤ → WordTable
+rip_word rip d j k = slice_index rip (place d j k)

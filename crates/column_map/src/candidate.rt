@@ -8,7 +8,7 @@ use std::marker::Model;
 pub struct Candidate {
     /// The offset in samples: positive where the rip is late.
     pub offset: i32,
-    /// How many words of the rip differ from the registered words.
+    /// How many words of the rip differ from those of the table that fits there.
     pub errors: u32,
     /// How many columns have such a word.
     pub columns: u32,

@@ -1,7 +1,6 @@
 pub mod FindingLaws
 pub mod LayoutChecks
 pub mod PieceLaws
-pub mod PutLaws
 pub mod ReadingLaws
 pub mod RecordLaws
 pub mod SpellingLaws

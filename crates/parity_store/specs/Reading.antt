@@ -39,18 +39,18 @@ abbrev pub spare_in : List ℕ → ℕ
 spare_in bytes = slice_index bytes 11
 
 -- where the parity begins, and where it ends
-abbrev pub parity_at : ℕ → ℕ
-parity_at tracks = 20 + 4 * tracks
+abbrev pub parity_begin : ℕ → ℕ
+parity_begin tracks = 20 + 4 * tracks
 
 abbrev pub digest_at : ℕ → ℕ → ℕ
-digest_at tracks count = parity_at tracks + 23520 * count
+digest_at tracks count = parity_begin tracks + 23520 * count
 
 -- the length of the record that a head announces
 abbrev pub length_in : List ℕ → ℕ
 length_in bytes = digest_at (tracks_in bytes) (count_in bytes) + 32
 
 abbrev pub starts_in : List ℕ → List ℕ
-starts_in bytes = numbers 4 (tracks_in bytes) (slice_range bytes 20 (parity_at (tracks_in bytes)))
+starts_in bytes = numbers 4 (tracks_in bytes) (slice_range bytes 20 (parity_begin (tracks_in bytes)))
 
 abbrev pub toc_in : List ℕ → Toc
 toc_in bytes = record {
@@ -60,7 +60,7 @@ toc_in bytes = record {
 }
 
 abbrev pub rows_in : List ℕ → List (List ℕ)
-rows_in bytes = rows_of_words (count_in bytes) 11760 (slice_range bytes (parity_at (tracks_in bytes)) (digest_at (tracks_in bytes) (count_in bytes)))
+rows_in bytes = rows_of_words (count_in bytes) 11760 (slice_range bytes (parity_begin (tracks_in bytes)) (digest_at (tracks_in bytes) (count_in bytes)))
 
 abbrev pub stored_in : List ℕ → Stored
 stored_in bytes = record { toc = toc_in bytes; count = count_in bytes; rows = rows_in bytes }

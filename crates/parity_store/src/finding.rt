@@ -2,8 +2,8 @@
 ghost use Rattle.std.specs.Prelude.{◌≡◌, ◌-◌, ◌^◌, ℕ, Some, IfSome, IfOk, length, min, vec_len};
 ghost use Rattle.std.specs.Option.{ForSome, option_map};
 ghost use Rattle.std.specs.FinMap.{get};
-ghost use Rattle.rip_outside.specs.Causes.{NoneFell};
-ghost use Rattle.parity_store.specs.Finding.{FindFaultHasCause, FindTakesWithin, Finds, KeepsWriteCounts};
+ghost use Rattle.rip_outside.specs.Causes.{KeepsWriteCounts, NoneFell};
+ghost use Rattle.parity_store.specs.Finding.{FindFaultHasCause, FindTakesWithin, Finds};
 
 use crate::reading::{RecordFail, RecordKind, read_record};
 use crate::record::Record;

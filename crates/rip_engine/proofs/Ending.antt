@@ -1,17 +1,20 @@
 -- The clauses of a run, from what its command came to.
-use Rattle.std.proofs.Common.{◌≡◌, ℕ, List, [], ◌∷◌, length, Option, None, Some, IfSome, IsSome, Result, Ok, Err, refl, sym, ◌∙◌, ap, inl, inr}
+use Rattle.std.specs.Prelude.{◌==◌}
+use Rattle.column_map.specs.declared.candidate.Candidate.{Candidate}
+use Rattle.std.proofs.Common.{◌≡◌, ℕ, Bool, true, false, cond, List, [], ◌∷◌, Option, None, Some, IfSome, IsSome, Result, Ok, Err, refl, sym, ◌∙◌, ap, inl, inr}
 use Rattle.rip_outside.specs.Files.{Files}
 use Rattle.rip_outside.specs.Seen.{Seen}
 use Rattle.rip_outside.proofs.FilesLaws.{if_told}
 use Rattle.rip_outside.specs.declared.fault.ShelfCall.{ShelfCall}
-use Rattle.rip_engine.specs.Steps.{opened, laid_out, free, StopsWithCause}
-use Rattle.rip_engine.specs.Outcome.{Outcome, refused, done, IsOutcomeOf, written_by, Leaves, Then, SameButPart}
-use Rattle.rip_engine.specs.Texts.{refusal_line, read_fault_line, write_fault_line}
+use Rattle.rip_engine.specs.Steps.{compared, StopsWithCause}
+use Rattle.rip_engine.specs.Outcome.{Outcome, refused, done, judged, listed, IsOutcomeOf, written_by, Leaves, Then, SameButPart}
+use Rattle.rip_engine.proofs.OneOutcome.{one_outcome}
+use Rattle.rip_engine.specs.Texts.{refusal_line, read_fault_line, write_fault_line, verified_text}
 use Rattle.rip_engine.specs.Run.{FaultsOfCommand, Concluded, OutcomeDecides, ReadFaultHasCause, WriteFaultHasCause, SinkFaultHasCause, WantOfMemoryKeeps, NothingWritten, Completes, ReadFailed, WriteFailed}
 use Rattle.rip_words.specs.declared.Command.{Command}
-use Rattle.rip_words.specs.declared.Command.TheVariants.{Register}
+use Rattle.rip_words.specs.declared.Command.TheVariants.{Register, Verify, Offsets, Repair}
 use Rattle.rip_engine.specs.declared.status.Status.{Status}
-use Rattle.rip_engine.specs.declared.status.Status.TheVariants.{ReadFault, WriteFault, SinkFault, WantOfMemory}
+use Rattle.rip_engine.specs.declared.status.Status.TheVariants.{Mendable, ReadFault, WriteFault, SinkFault, WantOfMemory}
 use Rattle.rip_engine.specs.declared.steps.Stop.{Stop}
 use Rattle.rip_engine.specs.declared.steps.Stop.TheVariants.{Refused, ReadFault as ReadStop, WriteFault as WriteStop, Oom as WantStop}
 
@@ -26,24 +29,29 @@ same_but_part : (out : Option (List ℕ)) (files : Files) → SameButPart out fi
 same_but_part None files = refl
 same_but_part (Some out) files = λ other apart. refl
 
--- a chain of steps has one outcome
-then_one : {A : Type 0} (step : Result A Status) (files : Files) (next : A → Outcome → Type 0) (a b : Outcome)
-    → ((found : A) → next found a → next found b → a ≡ b) → Then step files next a → Then step files next b → a ≡ b
-then_one (Err status) files next a b one is also = is ∙ sym also
-then_one (Ok found) files next a b one is also = one found is also
+-- a step that refuses leaves the files
+then_kept : {A : Type 0} (step : Result A Status) (files : Files) (next : A → Outcome → Type 0) (a : Outcome) → ((found : A) → next found a → a.files ≡ files) → Then step files next a → a.files ≡ files
+then_kept (Err status) files next a kept is = ap (λ (o : Outcome). o.files) is
+then_kept (Ok found) files next a kept is = kept found is
 
--- The words and the files have one outcome.
-pub one_outcome : (read : Result Command ℕ) (files : Files) (a b : Outcome) → IsOutcomeOf read files a → IsOutcomeOf read files b → a ≡ b
-one_outcome (Err word) files a b is also = is ∙ sym also
-one_outcome (Ok (Register input rec npar)) files a b is also =
-    then_one (opened input files) files _ a b
-    (λ words. then_one (laid_out (length words)) files _ a b (λ toc. then_one (free rec (input ∷ []) files) files _ a b (λ _ is also. is ∙ sym also)))
-    is also
+judged_files : (at : Candidate) (files : Files) → (judged at files).files ≡ files
+judged_files at files = by (at.errors == 0)
+  where
+    by : (b : Bool) → (cond b (done (verified_text at) files) (refused (Mendable at.offset at.errors at.columns) files)).files ≡ files
+    by true = refl
+    by false = refl
+
+listed_files : (found : List Candidate) (files : Files) → (listed found files).files ≡ files
+listed_files [] files = refl
+listed_files (at ∷ found) files = refl
 
 -- a command that has no output leaves the files
 no_output : (read : Result Command ℕ) (files : Files) (a : Outcome) → (IsSome (written_by read) → ⊥) → IsOutcomeOf read files a → a.files ≡ files
 no_output (Err word) files a none is = ap (λ (o : Outcome). o.files) is
 no_output (Ok (Register input rec npar)) files a none is = absurd (none refl)
+no_output (Ok (Verify input rec offset)) files a none is = then_kept (compared input rec files) files _ a (λ known is. then_kept is.0 files _ a (λ at is. ap (λ (o : Outcome). o.files) is ∙ judged_files at files) is.2) is
+no_output (Ok (Offsets input rec)) files a none is = then_kept (compared input rec files) files _ a (λ known is. ap (λ (o : Outcome). o.files) is.2 ∙ listed_files is.0 files) is
+no_output (Ok (Repair input rec to offset)) files a none is = absurd (none refl)
 
 module _ (read : Result Command ℕ) (before after : Seen) (status : Status) where
   pub decides : (p : Result (List ℕ) Stop) → Came read before after p status → OutcomeDecides read before after status
@@ -78,7 +86,7 @@ module _ (read : Result Command ℕ) (before after : Seen) (status : Status) whe
     reads = came.cause.0;
     rose = came.cause.1;
     asked = came.reads;
-    leaves = if_told before.held _ (λ files is. let left = rw is at came.leaves in (files, left, same_but_part (written_by read) files));
+    leaves = if_told before.held _ (λ files is. let left = rw is at came.leaves in elim left [ inl kept ↦ (files, kept, same_but_part (written_by read) files) | inr put ↦ put.4 ]);
   }
 
   -- and one of writing
@@ -170,7 +178,12 @@ module _ (read : Result Command ℕ) (before after : Seen) (status : Status) whe
       let none : IsSome (written_by read) → ⊥ = λ some. unwritten (ap (λ (o : Outcome). o.status) same, some) in
       left.1 ∙ ap Some (no_output read files (done text left.0) none left.2))
   nothing_written (Err (Refused why)) came = if_told before.held _ (λ files told outcome is unwritten. let left = rw told at came.leaves in left.0)
-  nothing_written (Err (ReadStop call)) came = if_told before.held _ (λ files told outcome is unwritten. let left = rw told at came.leaves in left)
+  nothing_written (Err (ReadStop call)) came = if_told before.held _ (λ files told outcome is unwritten.
+      let left = rw told at came.leaves in
+      elim left [
+        | inl kept ↦ kept
+        | inr put ↦ let same = one_outcome read files outcome put.0 is put.1 in absurd (unwritten (ap (λ (o : Outcome). o.status) same ∙ put.2, put.3))
+      ])
   nothing_written (Err (WriteStop call)) came = if_told before.held _ (λ files told outcome is unwritten.
       let left = rw told at came.leaves in
       let same = one_outcome read files outcome left.0 is left.1 in

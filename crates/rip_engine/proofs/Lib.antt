@@ -1,4 +1,9 @@
+pub mod CommandLaws
+pub mod Headline
 pub mod Leaving
 pub mod Ending
+pub mod OneOutcome
+pub mod PickLaws
 pub mod PieceLaws
+pub mod StepLaws
 pub mod StoredLaws

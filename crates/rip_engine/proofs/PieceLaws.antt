@@ -1,12 +1,20 @@
 -- Words that are read in pieces.
-use Rattle.std.proofs.Common.{zero, suc, [], ◌∷◌, append-nil, ◌≡◌, ◌∙◌, ℕ, ◌+◌, ◌-◌, ◌≤◌, List, ◌++◌, length, take, drop, sym, ap, ap₂, arith, subst}
-use Rattle.std.specs.Prelude.{slice_range, Option, IfSome}
-use Rattle.std.proofs.Math.Seq.{take-add}
-use Rattle.std.proofs.lemmas.List.{take_all}
-use Rattle.rip_outside.specs.Files.{Files}
-use Rattle.rip_outside.proofs.FilesLaws.{if_told_both}
+use Rattle.std.proofs.Common.{◌*◌, zero, suc, [], ◌∷◌, append-nil, ◌≡◌, ◌∙◌, ℕ, ◌+◌, ◌-◌, ◌≤◌, List, ◌++◌, length, take, drop, sym, ap, ap₂, arith, subst}
+use Rattle.std.specs.Prelude.{slice_range, Option, IfSome, Result}
+use Rattle.std.proofs.Math.Seq.{take-add, take-length}
+use Rattle.std.proofs.lemmas.List.{take-append-le, take_all}
+use Rattle.rip_outside.specs.Files.{Files, bytes_at}
+use Rattle.rip_outside.proofs.FilesLaws.{if_told_both, if_told_weaker}
 use Rattle.image_mender.specs.declared.image.Part.{Part}
 use Rattle.image_mender.specs.Joined.{AreInFiles, IsInFile, joined_words, part_words}
+use Rattle.disc_toc.specs.Toc.{toc_of}
+use Rattle.disc_toc.specs.declared.layout.Layout.{Layout}
+use Rattle.column_map.specs.declared.shape.Shape.{Shape}
+use Rattle.wav_frames.specs.declared.fail.WavAt.{WavAt}
+use Rattle.wav_frames.specs.Opening.{wav_words}
+use Rattle.wav_frames.proofs.ReadingLaws.{length-wav_words}
+use Rattle.rip_engine.specs.Steps.{laid_out, Does}
+use Rattle.rip_engine.specs.declared.steps.Stop.{Stop}
 use Rattle.syndrome_stream.specs.Registers.{Kept, StandsFor}
 use Rattle.syndrome_stream.specs.Parity.{image_parity}
 
@@ -50,3 +58,19 @@ sole_inside part files inside (suc k) d h = absurd (omega arith)
 -- the words of its image are the file's
 pub sole_words : (part : Part) (files : Files) → joined_words (part ∷ []) files ≡ part_words part files
 sole_words part files = append-nil (part_words part files)
+
+-- the layout of the words that were opened
+abbrev pub Laid : Option Files → List ℕ → WavAt → Result (Layout × Shape) Stop → Type 0
+Laid h0 input wav r = IfSome h0 (λ files. Does (λ found. toc_of found.0) r (laid_out (length (wav_words (bytes_at input files) wav))))
+
+pub laid_of : (h0 : Option Files) (input : List ℕ) (wav : WavAt) (r : Result (Layout × Shape) Stop) → IfSome h0 (λ files. wav.data_at + 2 * wav.words ≤ length (bytes_at input files))
+    → Does (λ found. toc_of found.0) r (laid_out wav.words) → Laid h0 input wav r
+laid_of h0 input wav r inside does = if_told_weaker h0 _ _ (λ files within. rw (length-wav_words (bytes_at input files) wav within) does) inside
+
+-- a range of all of a list
+pub whole_range : (xs : List ℕ) (n : ℕ) → n ≡ length xs → slice_range xs 0 n ≡ xs
+whole_range xs n is = let size : n - 0 ≡ length xs = omega arith in ap (λ k. take k xs) size ∙ take-length xs
+
+-- the front of two lists that are joined
+pub take_front : (n : ℕ) (xs ys : List ℕ) → n ≡ length xs → take n (xs ++ ys) ≡ xs
+take_front n xs ys is = let low : n ≤ length xs = omega arith in take-append-le n xs ys low ∙ take_all n xs (omega arith)

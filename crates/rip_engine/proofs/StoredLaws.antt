@@ -2,13 +2,12 @@
 use Rattle.std.specs.List.{list_any}
 use Rattle.std.specs.Str.{bytes_eq}
 use Rattle.std.specs.Prelude.{is_some, nat_lt}
-use Rattle.parity_store.specs.Put.{after_put}
 use Rattle.disc_toc.specs.OneTrack.{one_track_reading}
 use Rattle.disc_toc.specs.declared.reading.LayoutKind.{LayoutKind}
 use Rattle.disc_toc.specs.declared.reading.LayoutKind.TheVariants.{TooShort}
 use Rattle.std.proofs.Common.{Bool, true, false, cond, ◌≡◌, ◌∙◌, ℕ, List, [], ◌∷◌, length, Option, None, Some, Result, Ok, Err, refl, sym, ap, subst}
 use Rattle.std.specs.FinMap.{get, remove}
-use Rattle.rip_outside.specs.Files.{Files}
+use Rattle.rip_outside.specs.Files.{Files, after_put}
 use Rattle.rip_outside.specs.Seen.{Seen}
 use Rattle.rip_outside.proofs.FilesLaws.{if_told, get-insert_same, get-insert_other, get-remove_same}
 use Rattle.wav_frames.specs.Chunks.{Refusal, wav_reading}

@@ -1,5 +1,5 @@
 -- What a run answers, prints and leaves.
-use Rattle.std.specs.Prelude.{◌≡◌, ◌⊎◌, ℕ, List, ◌++◌, length, take, Result, Ok, Err, Option, None, Some, IfSome, IsSome}
+use Rattle.std.specs.Prelude.{◌≡◌, ◌≢◌, ◌⊎◌, ℕ, ◌/◌, ◌<◌, ◌≤◌, List, [], ◌∷◌, ◌++◌, length, take, Result, Ok, Err, Option, None, Some, IfSome, IsSome, ℤ}
 use Rattle.std.specs.Option.{option_map}
 use Rattle.std.specs.FinMap.{get}
 use Rattle.rip_outside.specs.Files.{Files, IfTold}
@@ -9,11 +9,20 @@ use Rattle.rip_outside.specs.declared.fault.ShelfCall.{ShelfCall}
 use Rattle.disc_toc.specs.Toc.{Toc}
 use Rattle.rip_words.specs.declared.Npar.{Npar}
 use Rattle.rip_words.specs.Command.{parity_words, part_of}
-use Rattle.rip_engine.specs.Steps.{opened, laid_out}
+use Rattle.column_map.specs.Columns.{IsOffset, WordTable, per_column, rip_word, stride}
+use Rattle.column_map.specs.Image.{IsImage}
+use Rattle.column_map.specs.Mending.{IsMended}
+use Rattle.column_map.specs.declared.candidate.Candidate.{Candidate}
+use Rattle.syndrome_stream.specs.Parity.{image_parity}
+use Rattle.wav_frames.specs.Wav.{wav_bytes}
+use Rattle.offset_search.specs.Tables.{table_of_image}
+use Rattle.offset_search.specs.Near.{HasOffset, IsNear, apart, damaged_columns, error_count}
+use Rattle.rip_engine.specs.Picking.{AreKnownCandidates, FitsKnown}
+use Rattle.rip_engine.specs.Steps.{Known, compared, free, opened, laid_out}
 use Rattle.rip_engine.specs.Outcome.{Outcome, record_of, IsOutcomeOf, written_by, SameButPart, SameButOutput}
-use Rattle.rip_engine.specs.Texts.{registered_line, refusal_line, read_fault_line, write_fault_line}
+use Rattle.rip_engine.specs.Texts.{registered_line, refusal_line, read_fault_line, write_fault_line, offsets_text, written_text}
 use Rattle.rip_words.specs.declared.Command.{Command}
-use Rattle.rip_words.specs.declared.Command.TheVariants.{Register}
+use Rattle.rip_words.specs.declared.Command.TheVariants.{Register, Offsets, Repair}
 use Rattle.rip_engine.specs.declared.status.Status.{Status}
 use Rattle.rip_engine.specs.declared.status.Status.TheVariants.{Done, ReadFault, WriteFault, SinkFault, WantOfMemory}
 use Rattle.rip_engine.specs.declared.steps.Stop.{Stop}
@@ -139,3 +148,61 @@ pub record Stored (input rec : List ℕ) (count : ℕ) (files now : Files) (text
 abbrev pub StoresParity : Result Command ℕ → Seen → Seen → Status → Type 0
 StoresParity read before after status = (input rec : List ℕ) (npar : Npar) → read ≡ Ok (Register input rec npar) → status ≡ Done →
     IfSome before.held (λ files. (now : Files) × (text : List ℕ) × (after.held ≡ Some now) × Wrote text before.told after.told × Stored input rec (parity_words npar) files now text)
+
+-- ---- what `repair` writes
+
+-- no call failed
+abbrev pub NoneFailed : Seen → Seen → Type 0
+NoneFailed before after = ((call : ShelfCall) → Rose (before.faults call) (after.faults call) → ⊥) × (Rose before.sink_faults after.sink_faults → ⊥)
+
+-- the rip is near the record at the offset d: some table of words fits
+abbrev pub IsKnownNear : Known → ℤ → Type 0
+IsKnownNear known d = IsNear known.count (per_column known.sectors) known.words d known.stored
+
+-- The offset at which a rip is mended: the given one, where the rip is near the record there; with none given, the only one of the
+-- range at which it is.
+abbrev pub IsOffsetToMend : Option ℤ → Known → ℤ → Type 0
+IsOffsetToMend (Some given) known d = (d ≡ given) × IsKnownNear known d
+IsOffsetToMend None known d = IsOffset d × IsKnownNear known d × ((other : ℤ) → IsOffset other → IsKnownNear known other → other ≡ d)
+
+-- What `repair` leaves when it is done: a table of words fits at the offset d, and it is the only one; the output holds the header
+-- and the rip's words, where columns have words the table's; the part isn't held; all other names are as before; and the text has
+-- the counts of the words that differ.
+pub record Repaired (to : List ℕ) (known : Known) (files now : Files) (text : List ℕ) (d : ℤ) : Type 0 where
+  pub table : WordTable
+  pub fits : FitsKnown known d table
+  pub only : (other : WordTable) → FitsKnown known d other → (j k : ℕ) → j < stride → k < per_column known.sectors → other j k ≡ table j k
+  pub image : List ℕ
+  pub mended : IsMended (per_column known.sectors) known.words d table image
+  pub holds : get now to ≡ Some (wav_bytes image)
+  pub part_gone : get now (part_of to) ≡ None
+  pub others : (name : List ℕ) → name ≢ to → name ≢ part_of to → get now name ≡ get files name
+  pub prints : text ≡ written_text record { offset = d; errors = error_count (per_column known.sectors) known.words d table; columns = damaged_columns (per_column known.sectors) known.words d table } to
+
+-- `repair` writes an image exactly where one single offset of the range, or the given one, has a table of words with the stored parity
+-- that differs from the shifted rip within the radius in every column; that table is the only one, its words are written, and all
+-- uncovered words are the rip's. It is so for every rip and every record of one layout, where the output's name is free.
+abbrev pub RepairIsExact : Result Command ℕ → Seen → Seen → Status → Type 0
+RepairIsExact read before after status = (input rec to : List ℕ) (offset : Option ℤ) (known : Known) → read ≡ Ok (Repair input rec to offset) →
+    IfSome before.held (λ files. compared input rec files ≡ Ok known → free to (input ∷ (rec ∷ [])) files ≡ Ok tt →
+    (status ≡ Done → (now : Files) × (text : List ℕ) × (after.held ≡ Some now) × Wrote text before.told after.told × ((d : ℤ) × IsOffsetToMend offset known d × Repaired to known files now text d))
+    × (NoneFailed before after → (d : ℤ) → IsOffsetToMend offset known d → (status ≡ Done) ⊎ (status ≡ WantOfMemory)))
+
+-- A damaged rip of a registered disc: the stored parity is that of an image, and the rip at the offset d differs from the image's
+-- covered words in no column in more words than the radius.
+pub record IsDamagedRip (known : Known) (image : List ℕ) (d : ℤ) : Type 0 where
+  pub registered : IsImage known.sectors image
+  pub parity : known.stored ≡ image_parity known.count (per_column known.sectors) image
+  pub offset : IsOffset d
+  pub close : (j : ℕ) → j < stride → apart (per_column known.sectors) (table_of_image image j) (rip_word known.words d j) ≤ known.count / 2
+
+-- The offset of a damaged rip of a registered disc is in the list that `offsets` prints; and where `repair` is done at that offset,
+-- the words that it writes where columns have words are the registered ones.
+abbrev pub DamagedDiscIsFound : Result Command ℕ → Seen → Seen → Status → Type 0
+DamagedDiscIsFound read before after status = (input rec : List ℕ) (known : Known) (image : List ℕ) (d : ℤ) → IsDamagedRip known image d →
+    IfSome before.held (λ files. compared input rec files ≡ Ok known →
+    (read ≡ Ok (Offsets input rec) → NoneFailed before after →
+    (status ≡ WantOfMemory) ⊎ ((status ≡ Done) × ((found : List Candidate) × AreKnownCandidates known found × HasOffset found d × Wrote (offsets_text found) before.told after.told)))
+    × ((to : List ℕ) (offset : Option ℤ) → read ≡ Ok (Repair input rec to offset) → free to (input ∷ (rec ∷ [])) files ≡ Ok tt → IsOffsetToMend offset known d → status ≡ Done →
+    (now : Files) × (written : List ℕ) × (after.held ≡ Some now) × (get now to ≡ Some (wav_bytes written))
+    × ((j k : ℕ) → j < stride → k < per_column known.sectors → rip_word written d j k ≡ table_of_image image j k)))

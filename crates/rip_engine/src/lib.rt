@@ -1,11 +1,16 @@
 //! All that the program does, over a folder of named files and an output.
 #![tactic(auto)]
 
+mod comparing;
+mod picking;
 mod reading;
 mod registering;
+mod repairing;
 mod running;
 mod status;
 mod steps;
+mod texts;
+mod verifying;
 
 pub use running::run;
 pub use status::Status;

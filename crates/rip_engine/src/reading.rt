@@ -19,10 +19,11 @@ use std::alloc::Global;
 use syndrome_stream::{Registers, Table};
 use wav_frames::WavAt;
 
-// The words that are read at a time.
-const PIECE: usize = 65_536;
+/// The words that are read or written at a time.
+pub const PIECE: usize = 65_536;
 
-fn zero_bytes(alloc: Global, count: usize) -> Result<Vec<u8>, Oom>
+/// So many zeros.
+pub fn zero_bytes(alloc: Global, count: usize) -> Result<Vec<u8>, Oom>
     ensures { IfOk result (λ bytes. vec_len bytes ≡ count) }
 {
     match vec![in alloc; 0u8; count] {
@@ -31,7 +32,8 @@ fn zero_bytes(alloc: Global, count: usize) -> Result<Vec<u8>, Oom>
     }
 }
 
-fn zero_words(alloc: Global, count: usize) -> Result<Vec<u16>, Oom>
+/// So many zeros.
+pub fn zero_words(alloc: Global, count: usize) -> Result<Vec<u16>, Oom>
     ensures { IfOk result (λ words. vec_len words ≡ count) }
 {
     match vec![in alloc; 0u16; count] {
@@ -122,5 +124,24 @@ pub fn parity_of<S: Shelf>(
             Ok(table) => Ok(Parity::Sixteen(table)),
             Err(stop) => Err(stop),
         },
+    }
+}
+
+/// Reads all of the rip's words.
+pub fn read_all<S: Shelf>(alloc: Global, shelf: &mut S, image: &Image) -> Result<Vec<u16>, Stop>
+    requires { ForSome (S.held shelf.old) (AreInFiles image.now) }
+    ensures words { IfSome (S.held shelf.old) (λ files. IfOk result (λ words. words.items ≡ joined_words image.now files)) }
+    ensures long { IfOk result (λ words. vec_len words ≡ word_count image.now) }
+    ensures same { S.held shelf.new ≡ S.held shelf.old }
+    ensures cause { OnlyReads (S.faults shelf.old) (S.faults shelf.new) result }
+    ensures later { NoneFell (S.faults shelf.old) (S.faults shelf.new) }
+{
+    let mut scratch = zero_bytes(alloc, 2 * PIECE)?;
+    let mut words = zero_words(alloc, image.words() as usize)?;
+    match image.read(shelf, 0, &mut words, &mut scratch) {
+        Ok(()) => Ok(words),
+        Err(_) => Err(Stop::ReadFault {
+            call: ShelfCall::ReadAt,
+        }),
     }
 }

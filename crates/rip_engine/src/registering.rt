@@ -2,21 +2,20 @@
 ghost use Rattle.std.specs.Prelude.{◌≡◌, ◌+◌, ◌*◌, ◌^◌, ◌<◌, ◌≤◌, length, IfSome, IfOk, Some, None};
 ghost use Rattle.std.specs.Option.{ForSome};
 ghost use Rattle.std.specs.FinMap.{get};
-ghost use Rattle.rip_outside.specs.Files.{bytes_at};
+ghost use Rattle.rip_outside.specs.Files.{after_put, bytes_at};
 ghost use Rattle.rip_outside.specs.Causes.{NoneFell};
 ghost use Rattle.column_map.specs.Columns.{per_column};
 ghost use Rattle.syndrome_stream.specs.Parity.{image_parity};
 ghost use Rattle.disc_toc.specs.Toc.{toc_of};
 ghost use Rattle.wav_frames.specs.Opening.{wav_words};
-ghost use Rattle.parity_store.specs.Put.{after_put};
 ghost use Rattle.rip_words.specs.Command.{part_of, parity_words};
 ghost use Rattle.rip_engine.specs.Steps.{StopsWithCause, OnlyReads};
 ghost use Rattle.rip_engine.specs.Texts.{registered_line};
 ghost use Rattle.rip_engine.specs.Outcome.{IsRegisterOutcome, Leaves, done, record_of};
 
 use crate::reading::{parity_of, sole_image};
-use crate::status::registered_text;
-use crate::steps::{Stop, check_free, lay_out, open_input, part_name, write_out};
+use crate::steps::{Stop, check_free, is_input, lay_out, open_input, part_name, write_out};
+use crate::texts::registered_text;
 use column_map::Shape;
 use disc_toc::Layout;
 use parity_store::{Record, record_bytes};
@@ -69,7 +68,8 @@ pub fn register<S: Shelf>(
     let wav = open_input(alloc, shelf, input)?;
     let (layout, shape) = lay_out(alloc, wav.words)?;
     let part = part_name(alloc, rec)?;
-    check_free(alloc, shelf, input, rec, part.as_str())?;
+    let is_read = is_input(part.as_str(), input);
+    check_free(alloc, shelf, rec, part.as_str(), is_read)?;
     store(
         alloc,
         shelf,

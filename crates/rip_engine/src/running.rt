@@ -4,11 +4,14 @@ ghost use Rattle.rip_outside.specs.Seen.{seen};
 ghost use Rattle.rip_words.specs.Command.{texts, command_reading};
 ghost use Rattle.rip_engine.specs.Steps.{StopsWithCause};
 ghost use Rattle.rip_engine.specs.Outcome.{IsOutcomeOf, Leaves, written_by};
-ghost use Rattle.rip_engine.specs.Run.{FaultsOfCommand, Reported, Concluded, OutcomeDecides, ReadFaultHasCause, WriteFaultHasCause, SinkFaultHasCause, WantOfMemoryKeeps, NothingWritten, Completes, StoresParity};
+ghost use Rattle.rip_engine.specs.Run.{FaultsOfCommand, Reported, Concluded, OutcomeDecides, ReadFaultHasCause, WriteFaultHasCause, SinkFaultHasCause, WantOfMemoryKeeps, NothingWritten, Completes, StoresParity, RepairIsExact, DamagedDiscIsFound};
 
 use crate::registering::register;
-use crate::status::{Status, refusal_text};
+use crate::repairing::repair;
+use crate::status::Status;
 use crate::steps::Stop;
+use crate::texts::refusal_text;
+use crate::verifying::{offsets, verify};
 use rip_outside::{Shelf, Sink, Text};
 use rip_words::{Command, WordsFail, read_words};
 use std::alloc::Global;
@@ -23,6 +26,27 @@ fn perform<S: Shelf>(alloc: Global, words: &[String], shelf: &mut S) -> Result<T
         Ok(Command::Register { input, rec, npar }) => {
             register(alloc, shelf, input.as_str(), rec.as_str(), npar)
         }
+        Ok(Command::Verify { input, rec, offset }) => {
+            verify(alloc, shelf, input.as_str(), rec.as_str(), offset)
+        }
+        Ok(Command::Offsets { input, rec }) => {
+            offsets(alloc, shelf, input.as_str(), rec.as_str())
+        }
+        Ok(
+            Command::Repair {
+                input,
+                rec,
+                to,
+                offset,
+            },
+        ) => repair(
+            alloc,
+            shelf,
+            input.as_str(),
+            rec.as_str(),
+            to.as_str(),
+            offset,
+        ),
         Err(WordsFail::Usage { word }) => Err(Stop::Refused(Status::Usage { word })),
         Err(WordsFail::Oom) => Err(Stop::Oom),
     }
@@ -63,6 +87,8 @@ fn conclude<K: Sink>(alloc: Global, out: &mut K, performed: Result<Text, Stop>) 
 pub fn run<F: Shelf, K: Sink>(alloc: Global, words: &[String], files: &mut F, out: &mut K) -> Status
     ensures outcome { OutcomeDecides (command_reading (texts words.now)) (seen F.Shelf K.Sink files.old out.old) (seen F.Shelf K.Sink files.new out.new) result }
     ensures stores { StoresParity (command_reading (texts words.now)) (seen F.Shelf K.Sink files.old out.old) (seen F.Shelf K.Sink files.new out.new) result }
+    ensures repairs { RepairIsExact (command_reading (texts words.now)) (seen F.Shelf K.Sink files.old out.old) (seen F.Shelf K.Sink files.new out.new) result }
+    ensures finds_damaged { DamagedDiscIsFound (command_reading (texts words.now)) (seen F.Shelf K.Sink files.old out.old) (seen F.Shelf K.Sink files.new out.new) result }
     ensures read_fault { ReadFaultHasCause (command_reading (texts words.now)) (seen F.Shelf K.Sink files.old out.old) (seen F.Shelf K.Sink files.new out.new) result }
     ensures write_fault { WriteFaultHasCause (command_reading (texts words.now)) (seen F.Shelf K.Sink files.old out.old) (seen F.Shelf K.Sink files.new out.new) result }
     ensures sink_fault { SinkFaultHasCause (command_reading (texts words.now)) (seen F.Shelf K.Sink files.old out.old) (seen F.Shelf K.Sink files.new out.new) result }

@@ -1,20 +1,23 @@
 // The steps that commands share: each refuses with a status, or finds what the next one goes on with.
-ghost use Rattle.std.specs.Prelude.{◌≡◌, ◌+◌, ◌*◌, ◌≤◌, ◌∷◌, [], length, IfSome, IfOk, OnOk};
+ghost use Rattle.std.specs.Prelude.{◌≡◌, ◌+◌, ◌*◌, ◌≤◌, ◌∷◌, [], length, false, IfSome, IfOk};
+ghost use Rattle.std.specs.List.{list_any};
+ghost use Rattle.std.specs.Str.{bytes_eq};
 ghost use Rattle.std.specs.Option.{ForSome};
 ghost use Rattle.std.specs.FinMap.{get};
-ghost use Rattle.rip_outside.specs.Files.{bytes_at};
+ghost use Rattle.rip_outside.specs.Files.{after_put, bytes_at};
 ghost use Rattle.rip_outside.specs.Causes.{NoneFell};
+ghost use Rattle.column_map.specs.Columns.{IsSectorCount};
 ghost use Rattle.disc_toc.specs.Toc.{toc_of};
 ghost use Rattle.wav_frames.specs.Opening.{IsInFile, wav_words};
-ghost use Rattle.parity_store.specs.Put.{after_put};
+ghost use Rattle.parity_store.specs.Reading.{stored_of};
 ghost use Rattle.rip_words.specs.Command.{part_of};
-ghost use Rattle.rip_engine.specs.Steps.{opened, laid_out, free, stop_of, Does, OnlyRefuses, ReadsWithCause, StopsWithCause};
+ghost use Rattle.rip_engine.specs.Steps.{opened, laid_out, recorded, same_layout, freed, stop_of, Does, OnlyRefuses, ReadsWithCause, StopsWithCause};
 ghost use Rattle.rip_engine.specs.Outcome.{Leaves, done};
 
 use crate::status::Status;
 use column_map::Shape;
-use disc_toc::{Layout, LayoutFail, LayoutKind, one_track};
-use parity_store::{PutFail, put};
+use disc_toc::{Layout, LayoutFail, LayoutKind, first_difference, one_track};
+use parity_store::{FindFail, PutFail, Record, find, put};
 use rip_outside::{Name, Oom, Shelf, ShelfCall, Text};
 use std::alloc::Global;
 use wav_frames::{WavAt, WavFail, open_wav};
@@ -91,6 +94,7 @@ pub fn lay_out(alloc: Global, words: u64) -> Result<(Layout, Shape), Stop>
     requires { words ≤ 2147483647 }
     ensures answer { Does (λ found. toc_of found.0) result (laid_out words) }
     ensures shape { IfOk result (λ found. found.1 ≡ found.0.sectors) }
+    ensures range { IfOk result (λ found. IsSectorCount found.1) }
     ensures count { IfOk result (λ found. words ≡ 1176 * found.0.sectors) }
     ensures cause { OnlyRefuses result }
 {
@@ -110,16 +114,61 @@ pub fn lay_out(alloc: Global, words: u64) -> Result<(Layout, Shape), Stop>
     Ok((layout, shape))
 }
 
-/// Sees that the output's name is free: it isn't held, and its part isn't the rip's WAV file.
+/// Finds the record under a name, or why there is none.
+pub fn find_record<S: Shelf>(alloc: Global, shelf: &mut S, name: &str) -> Result<Record, Stop>
+    ensures answer { IfSome (S.held shelf.old) (λ files. Does stored_of result (recorded name.now files)) }
+    ensures same { S.held shelf.new ≡ S.held shelf.old }
+    ensures cause { ReadsWithCause (S.faults shelf.old) (S.faults shelf.new) result }
+    ensures later { NoneFell (S.faults shelf.old) (S.faults shelf.new) }
+{
+    match find(alloc, shelf, name) {
+        Ok(rec) => Ok(rec),
+        Err(FindFail::NoRecord) => {
+            let name = name_of(alloc, name)?;
+            Err(Stop::Refused(Status::NoRecord { name }))
+        }
+        Err(FindFail::Refused { kind }) => Err(Stop::Refused(Status::RecordRefused { kind })),
+        Err(FindFail::ReadFault { call }) => Err(Stop::ReadFault { call }),
+        Err(FindFail::Oom) => Err(Stop::Oom),
+    }
+}
+
+/// Sees that the rip's layout is the record's.
+pub fn check_layout(rip: &Layout, kept: &Layout) -> Result<(), Stop>
+    ensures answer { Does (λ _. tt) result (same_layout (toc_of rip.now) (toc_of kept.now)) }
+    ensures cause { OnlyRefuses result }
+{
+    match first_difference(rip, kept) {
+        Some(differs) => Err(Stop::Refused(Status::OtherLayout { differs })),
+        None => Ok(()),
+    }
+}
+
+/// Whether an output's part is the rip's file, which is read.
+pub fn is_input(part: &str, input: &str) -> bool
+    ensures { result ≡ list_any (bytes_eq part.now) (input.now ∷ []) }
+{
+    part == input
+}
+
+/// Whether an output's part is the rip's file or the record, which are read.
+pub fn is_input_or_record(part: &str, input: &str, rec: &str) -> bool
+    ensures { result ≡ list_any (bytes_eq part.now) (input.now ∷ (rec.now ∷ [])) }
+{
+    part == input || part == rec
+}
+
+/// Sees that the output's name is free: it isn't held, and its part isn't a file that is read.
 pub fn check_free<S: Shelf>(
     alloc: Global,
     shelf: &mut S,
-    input: &str,
     out: &str,
     part: &str,
+    is_read: bool,
 ) -> Result<(), Stop>
     requires { part.now ≡ part_of out.now }
-    ensures answer { IfSome (S.held shelf.old) (λ files. Does (λ _. tt) result (free out.now (input.now ∷ []) files)) }
+    ensures answer { IfSome (S.held shelf.old) (λ files. Does (λ _. tt) result (freed is_read out.now files)) }
+    ensures unread { IfOk result (λ _. is_read ≡ false) }
     ensures same { S.held shelf.new ≡ S.held shelf.old }
     ensures cause { ReadsWithCause (S.faults shelf.old) (S.faults shelf.new) result }
     ensures later { NoneFell (S.faults shelf.old) (S.faults shelf.new) }
@@ -133,7 +182,7 @@ pub fn check_free<S: Shelf>(
         let name = name_of(alloc, out)?;
         return Err(Stop::Refused(Status::OutExists { name }));
     }
-    if part == input {
+    if is_read {
         let name = name_of(alloc, part)?;
         return Err(Stop::Refused(Status::OutExists { name }));
     }

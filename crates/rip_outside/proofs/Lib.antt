@@ -1,2 +1,4 @@
+pub mod CauseLaws
 pub mod CountLaws
 pub mod FilesLaws
+pub mod PutLaws

@@ -1,13 +1,16 @@
 -- The words of the command line.
-use Rattle.std.specs.Prelude.{None, ◌≡◌, ℕ, ◌-◌, ◌==◌, ◌&&◌, nat_eq, Bool, false, not, List, [], ◌∷◌, ◌++◌, length, drop, Result, Ok, Err, codes, map, String, if◌then◌else◌, Option, Some}
-use Rattle.std.specs.List.{ends_with}
-use Rattle.std.specs.Str.{bytes_eq, str_eq_ignore_ascii_case}
+use Rattle.std.specs.Prelude.{None, ◌≡◌, ℕ, ◌+◌, ◌-◌, ◌==◌, ◌&&◌, nat_eq, nat_le, Bool, false, not, List, [], ◌∷◌, ◌++◌, length, drop, Result, Ok, Err, codes, map, String, if◌then◌else◌, Option, Some, unwrap_or, ℤ}
+use Rattle.std.specs.List.{ends_with, starts_with}
+use Rattle.std.specs.Str.{all_ascii_digits, bytes_eq, str_eq_ignore_ascii_case}
+use Rattle.std.specs.Str.Parse.{digits_value, signed_digits_value, without_leading_sign}
 use Rattle.std.specs.String.{string_bytes}
 use Rattle.std.specs.declared.alloc.Global.{Global}
 use Rattle.rip_words.specs.declared.Command.{Command}
-use Rattle.rip_words.specs.declared.Command.TheVariants.{Register}
+use Rattle.rip_words.specs.declared.Command.TheVariants.{Register, Verify, Offsets, Repair}
 use Rattle.rip_words.specs.declared.Npar.{Npar}
 use Rattle.rip_words.specs.declared.Npar.TheVariants.{Four, Eight, Sixteen}
+use Rattle.rip_words.specs.declared.Verb.{Verb}
+use Rattle.rip_words.specs.declared.Verb.TheVariants.{Register as ToRegister, Verify as ToVerify, Offsets as ToOffsets, Repair as ToRepair}
 use Rattle.rip_words.specs.declared.WordsFail.{WordsFail}
 use Rattle.rip_words.specs.declared.WordsFail.TheVariants.{Usage, Oom}
 
@@ -41,52 +44,107 @@ parity_words Four = 4
 parity_words Eight = 8
 parity_words Sixteen = 16
 
--- the option that says so
-abbrev pub npar_of : List ℕ → Option Npar
-npar_of word =
+-- ---- the options
+
+-- the option that says how many: `--npar=4`, `--npar=8` or `--npar=16`
+abbrev pub npar_option : List ℕ → Option Npar
+npar_option word =
     if bytes_eq word (codes "--npar=4") then Some Four
     else if bytes_eq word (codes "--npar=8") then Some Eight
     else if bytes_eq word (codes "--npar=16") then Some Sixteen
     else None
 
--- nothing stands after the option
-abbrev pub end_words : List ℕ → List ℕ → Npar → List (List ℕ) → Result Command ℕ
-end_words input rec npar [] = Ok (Register input rec npar)
-end_words input rec npar (more ∷ rest) = Err 4
+-- an offset's digits: one to four decimal ones, with a value of at most 5,879
+abbrev pub is_offset_digits : List ℕ → Bool
+is_offset_digits digits = all_ascii_digits digits && nat_le 1 (length digits) && nat_le (length digits) 4 && nat_le (digits_value 10 digits) 5879
 
-abbrev pub after_option : List ℕ → List ℕ → Option Npar → List (List ℕ) → Result Command ℕ
-after_option input rec None rest = Err 3
-after_option input rec (Some npar) rest = end_words input rec npar rest
+-- An offset in samples is written with a `+`, a `-` or no sign, and its digits.
+abbrev pub offset_of : List ℕ → Option ℤ
+offset_of number = if is_offset_digits (without_leading_sign number) then Some (signed_digits_value 10 number) else None
 
--- the words after `register INPUT REC`: the option, or nothing, where there are eight parity words for each column
-abbrev pub option_words : List ℕ → List ℕ → List (List ℕ) → Result Command ℕ
-option_words input rec [] = Ok (Register input rec Eight)
-option_words input rec (option ∷ rest) = after_option input rec (npar_of option) rest
+-- the option that says at which offset the rip is: `--offset=N`
+abbrev pub offset_option : List ℕ → Option ℤ
+offset_option word = if starts_with nat_eq word (codes "--offset=") then offset_of (drop (length (codes "--offset=")) word) else None
 
--- the words after `register INPUT`
-abbrev pub record_words : List ℕ → List (List ℕ) → Result Command ℕ
-record_words input [] = Err 2
-record_words input (rec ∷ rest) = if is_record rec then option_words input rec rest else Err 2
+-- the option at this index, once it was read: no word stands after it
+abbrev pub last_option : {A : Type 0} → ℕ → Option A → List (List ℕ) → Result (Option A) ℕ
+last_option at None rest = Err at
+last_option at (Some value) [] = Ok (Some value)
+last_option at (Some value) (more ∷ rest) = Err (at + 1)
 
--- the words after `register`
-abbrev pub register_words : List (List ℕ) → Result Command ℕ
-register_words [] = Err 1
-register_words (input ∷ rest) = if is_input input then record_words input rest else Err 1
+-- the words from this index on: one option, which `read` reads, or nothing
+abbrev pub option_words : {A : Type 0} → (List ℕ → Option A) → ℕ → List (List ℕ) → Result (Option A) ℕ
+option_words read at [] = Ok None
+option_words read at (option ∷ rest) = last_option at (read option) rest
+
+-- ---- the commands
+
+-- the command with the value of its option
+abbrev pub with_option : {A : Type 0} → (A → Command) → Result A ℕ → Result Command ℕ
+with_option command (Ok value) = Ok (command value)
+with_option command (Err word) = Err word
+
+-- the words after `repair INPUT REC`: OUT, and an offset or none
+abbrev pub out_words : List ℕ → List ℕ → List (List ℕ) → Result Command ℕ
+out_words input rec [] = Err 3
+out_words input rec (to ∷ rest) = if is_name to then with_option (Repair input rec to) (option_words offset_option 4 rest) else Err 3
+
+-- the words after a command's own, INPUT and REC
+abbrev pub command_words : Verb → List ℕ → List ℕ → List (List ℕ) → Result Command ℕ
+command_words ToRegister input rec words = with_option (λ npar. Register input rec (unwrap_or npar Eight)) (option_words npar_option 3 words)
+command_words ToVerify input rec words = with_option (Verify input rec) (option_words offset_option 3 words)
+command_words ToOffsets input rec [] = Ok (Offsets input rec)
+command_words ToOffsets input rec (more ∷ rest) = Err 3
+command_words ToRepair input rec words = out_words input rec words
+
+-- the words after a command's own and INPUT: REC, and what that command has
+abbrev pub record_words : Verb → List ℕ → List (List ℕ) → Result Command ℕ
+record_words verb input [] = Err 2
+record_words verb input (rec ∷ rest) = if is_record rec then command_words verb input rec rest else Err 2
+
+-- the words after a command's own: INPUT, REC, and what that command has
+abbrev pub input_words : Verb → List (List ℕ) → Result Command ℕ
+input_words verb [] = Err 1
+input_words verb (input ∷ rest) = if is_input input then record_words verb input rest else Err 1
+
+-- the commands' own words
+abbrev pub verb_of : List ℕ → Option Verb
+verb_of word =
+    if bytes_eq word (codes "register") then Some ToRegister
+    else if bytes_eq word (codes "verify") then Some ToVerify
+    else if bytes_eq word (codes "offsets") then Some ToOffsets
+    else if bytes_eq word (codes "repair") then Some ToRepair
+    else None
+
+-- the words after the first
+abbrev pub verb_words : Option Verb → List (List ℕ) → Result Command ℕ
+verb_words None rest = Err 0
+verb_words (Some verb) rest = input_words verb rest
 
 -- The command, or the index of the first word that breaks a rule, or the number of words where one is missing.
 abbrev pub command_reading : List (List ℕ) → Result Command ℕ
 command_reading [] = Err 0
-command_reading (first ∷ rest) = if bytes_eq first (codes "register") then register_words rest else Err 0
+command_reading (first ∷ rest) = verb_words (verb_of first) rest
 
 -- what is read is the meaning of the words
-abbrev pub Reads : Result Command WordsFail → Result Command ℕ → Type 0
+abbrev pub Reads : {A : Type 0} → Result A WordsFail → Result A ℕ → Type 0
 Reads (Ok read) meaning = meaning ≡ Ok read
 Reads (Err (Usage word)) meaning = meaning ≡ Err word
 Reads (Err Oom) meaning = Unit {0}
 
+-- the offset that a command gives
+abbrev pub offset_in : Command → Option ℤ
+offset_in (Register input rec npar) = None
+offset_in (Verify input rec offset) = offset
+offset_in (Offsets input rec) = None
+offset_in (Repair input rec to offset) = offset
+
 -- the name that a command writes under
 abbrev pub output_of : Command → Option (List ℕ)
 output_of (Register input rec npar) = Some rec
+output_of (Verify input rec offset) = None
+output_of (Offsets input rec) = None
+output_of (Repair input rec to offset) = Some to
 
 -- the name under which an output is made before it gets its own
 abbrev pub part_of : List ℕ → List ℕ

@@ -1,9 +1,11 @@
 //! The words of the command line: the command that they are, or the index of the first that breaks a rule.
 #![tactic(auto)]
 
-ghost use Rattle.std.specs.Prelude.{◌≡◌, IfOk, IsOkUnless};
+ghost use Rattle.std.specs.Prelude.{◌≡◌, ◌<◌, ◌^◌, ◌+◌, IfOk, IfSome, IsOkUnless};
+ghost use Rattle.std.specs.Str.Parse.{without_leading_sign};
 ghost use Rattle.std.specs.String.{string_bytes};
-ghost use Rattle.rip_words.specs.Command.{Reads, command_reading, end_words, is_folder, is_input, is_name, is_record, is_sheet, npar_of, option_words, record_words, register_words, texts};
+ghost use Rattle.column_map.specs.Columns.{IsOffset};
+ghost use Rattle.rip_words.specs.Command.{Reads, command_reading, command_words, input_words, is_folder, is_input, is_name, is_record, is_sheet, last_option, npar_option, offset_in, offset_of, offset_option, option_words, out_words, record_words, texts, verb_of};
 
 use rip_outside::Name;
 use std::alloc::Global;
@@ -20,7 +22,29 @@ pub enum Npar {
 #[derive(Debug, Drop, PartialEq, Eq)]
 pub enum Command {
     /// Stores the parity of the rip INPUT under the name REC.
-    Register { input: Name, rec: Name, npar: Npar },
+    Register {
+        input: Name,
+        rec: Name,
+        npar: Npar,
+    },
+    /// Sees whether the rip INPUT is near the record REC, at one offset in samples or at any.
+    Verify {
+        input: Name,
+        rec: Name,
+        offset: Option<i32>,
+    },
+    /// Lists the offsets at which the rip INPUT is near the record REC.
+    Offsets {
+        input: Name,
+        rec: Name,
+    },
+    /// Writes the rip INPUT, mended by the record REC, under the name OUT.
+    Repair {
+        input: Name,
+        rec: Name,
+        to: Name,
+        offset: Option<i32>,
+    },
 }
 
 /// Why the words are no command.
@@ -30,6 +54,15 @@ pub enum WordsFail {
     Usage { word: u32 },
     /// Memory was wanting.
     Oom,
+}
+
+// What a command's own word asks for.
+#[derive(Clone, Copy)]
+enum Verb {
+    Register,
+    Verify,
+    Offsets,
+    Repair,
 }
 
 // A word that names a file isn't empty and doesn't begin with `-`, which begins an option.
@@ -79,8 +112,8 @@ fn name_of(alloc: Global, word: &String) -> Result<Name, WordsFail>
 }
 
 // The option that says how many parity words there are to be.
-fn npar_of(word: &str) -> Option<Npar>
-    ensures { result ≡ npar_of word.now }
+fn npar_option(word: &str) -> Option<Npar>
+    ensures { result ≡ npar_option word.now }
 {
     match word {
         "--npar=4" => Some(Npar::Four),
@@ -90,44 +123,154 @@ fn npar_of(word: &str) -> Option<Npar>
     }
 }
 
-fn read_end(
-    alloc: Global,
-    input: &String,
-    rec: &String,
-    npar: Npar,
-    words: &[String],
-) -> Result<Command, WordsFail>
-    ensures { Reads result (end_words (string_bytes input.now) (string_bytes rec.now) npar (texts words.now)) }
+// The digits of a number, after its sign.
+fn without_sign(number: &[u8]) -> &[u8]
+    ensures { result.now ≡ without_leading_sign number.now }
 {
-    match words {
-        [] => Ok(Command::Register {
-            input: name_of(alloc, input)?,
-            rec: name_of(alloc, rec)?,
-            npar,
-        }),
-        [_, ..] => Err(WordsFail::Usage { word: 4 }),
+    match number {
+        [b'-' | b'+', digits @ ..] => digits,
+        _ => number,
     }
 }
 
-fn read_option(
+// The most digits that an offset is written with, and the most samples that it counts, early or late.
+const MOST_DIGITS: usize = 4;
+
+const FARTHEST: i32 = 5879;
+
+// An offset as it is written, in samples.
+fn offset_of(number: &str) -> Option<i32>
+    ensures value { result ≡ offset_of number.now }
+    ensures range { IfSome result IsOffset }
+{
+    if without_sign(number.as_bytes()).len() > MOST_DIGITS {
+        return None;
+    }
+    match number.parse::<i32>() {
+        Ok(offset) if offset >= -FARTHEST && offset <= FARTHEST => Some(offset),
+        _ => None,
+    }
+}
+
+// The option that says at which offset the rip is.
+fn offset_option(word: &str) -> Option<i32>
+    ensures value { result ≡ offset_option word.now }
+    ensures range { IfSome result IsOffset }
+{
+    offset_of(word.strip_prefix("--offset=")?)
+}
+
+// The option that stands at this index, once it was read: nothing may stand after it.
+fn last_option<A: Copy>(at: u32, option: Option<A>, rest: &[String]) -> Result<Option<A>, WordsFail>
+    requires { at + 1 < 2 ^ 32 }
+    ensures value { Reads result (last_option at option (texts rest.now)) }
+    ensures kept { IfOk result (λ kept. kept ≡ option) }
+{
+    match (option, rest) {
+        (None, _) => Err(WordsFail::Usage { word: at }),
+        (Some(_), []) => Ok(option),
+        (Some(_), [_, ..]) => Err(WordsFail::Usage { word: at + 1 }),
+    }
+}
+
+// The words from this index on, where an option on the parity words may stand.
+fn read_npar(at: u32, words: &[String]) -> Result<Option<Npar>, WordsFail>
+    requires { at + 1 < 2 ^ 32 }
+    ensures { Reads result (option_words npar_option at (texts words.now)) }
+{
+    match words {
+        [] => Ok(None),
+        [option, rest @ ..] => last_option(at, npar_option(option.as_str()), rest),
+    }
+}
+
+// The words from this index on, where an offset may stand.
+fn read_offset(at: u32, words: &[String]) -> Result<Option<i32>, WordsFail>
+    requires { at + 1 < 2 ^ 32 }
+    ensures value { Reads result (option_words offset_option at (texts words.now)) }
+    ensures range { IfOk result (λ offset. IfSome offset IsOffset) }
+{
+    match words {
+        [] => Ok(None),
+        [option, rest @ ..] => last_option(at, offset_option(option.as_str()), rest),
+    }
+}
+
+// The words of `repair` after INPUT and REC.
+fn read_out(
     alloc: Global,
     input: &String,
     rec: &String,
     words: &[String],
 ) -> Result<Command, WordsFail>
-    ensures { Reads result (option_words (string_bytes input.now) (string_bytes rec.now) (texts words.now)) }
+    ensures value { Reads result (out_words (string_bytes input.now) (string_bytes rec.now) (texts words.now)) }
+    ensures range { IfOk result (λ read. IfSome (offset_in read) IsOffset) }
 {
     match words {
-        [] => read_end(alloc, input, rec, Npar::Eight, words),
-        [option, rest @ ..] => match npar_of(option.as_str()) {
-            Some(npar) => read_end(alloc, input, rec, npar, rest),
-            None => Err(WordsFail::Usage { word: 3 }),
+        [] => Err(WordsFail::Usage { word: 3 }),
+        [to, rest @ ..] => {
+            if !is_name(to.as_bytes()) {
+                return Err(WordsFail::Usage { word: 3 });
+            }
+            let offset = read_offset(4, rest)?;
+            Ok(Command::Repair {
+                input: name_of(alloc, input)?,
+                rec: name_of(alloc, rec)?,
+                to: name_of(alloc, to)?,
+                offset,
+            })
+        }
+    }
+}
+
+// The words after INPUT and REC.
+fn read_command(
+    alloc: Global,
+    verb: Verb,
+    input: &String,
+    rec: &String,
+    words: &[String],
+) -> Result<Command, WordsFail>
+    ensures value { Reads result (command_words verb (string_bytes input.now) (string_bytes rec.now) (texts words.now)) }
+    ensures range { IfOk result (λ read. IfSome (offset_in read) IsOffset) }
+{
+    match verb {
+        Verb::Register => {
+            let npar = read_npar(3, words)?.unwrap_or(Npar::Eight);
+            Ok(Command::Register {
+                input: name_of(alloc, input)?,
+                rec: name_of(alloc, rec)?,
+                npar,
+            })
+        }
+        Verb::Verify => {
+            let offset = read_offset(3, words)?;
+            Ok(Command::Verify {
+                input: name_of(alloc, input)?,
+                rec: name_of(alloc, rec)?,
+                offset,
+            })
+        }
+        Verb::Offsets => match words {
+            [] => Ok(Command::Offsets {
+                input: name_of(alloc, input)?,
+                rec: name_of(alloc, rec)?,
+            }),
+            [_, ..] => Err(WordsFail::Usage { word: 3 }),
         },
+        Verb::Repair => read_out(alloc, input, rec, words),
     }
 }
 
-fn read_record(alloc: Global, input: &String, words: &[String]) -> Result<Command, WordsFail>
-    ensures { Reads result (record_words (string_bytes input.now) (texts words.now)) }
+// The words after INPUT.
+fn read_record(
+    alloc: Global,
+    verb: Verb,
+    input: &String,
+    words: &[String],
+) -> Result<Command, WordsFail>
+    ensures value { Reads result (record_words verb (string_bytes input.now) (texts words.now)) }
+    ensures range { IfOk result (λ read. IfSome (offset_in read) IsOffset) }
 {
     match words {
         [] => Err(WordsFail::Usage { word: 2 }),
@@ -135,13 +278,15 @@ fn read_record(alloc: Global, input: &String, words: &[String]) -> Result<Comman
             if !is_record(rec.as_bytes()) {
                 return Err(WordsFail::Usage { word: 2 });
             }
-            read_option(alloc, input, rec, rest)
+            read_command(alloc, verb, input, rec, rest)
         }
     }
 }
 
-fn read_register(alloc: Global, words: &[String]) -> Result<Command, WordsFail>
-    ensures { Reads result (register_words (texts words.now)) }
+// The words after a command's own.
+fn read_input(alloc: Global, verb: Verb, words: &[String]) -> Result<Command, WordsFail>
+    ensures value { Reads result (input_words verb (texts words.now)) }
+    ensures range { IfOk result (λ read. IfSome (offset_in read) IsOffset) }
 {
     match words {
         [] => Err(WordsFail::Usage { word: 1 }),
@@ -149,21 +294,35 @@ fn read_register(alloc: Global, words: &[String]) -> Result<Command, WordsFail>
             if !is_input(input.as_bytes()) {
                 return Err(WordsFail::Usage { word: 1 });
             }
-            read_record(alloc, input, rest)
+            read_record(alloc, verb, input, rest)
         }
     }
 }
 
+// What a command's own word asks for.
+fn verb_of(word: &str) -> Option<Verb>
+    ensures { result ≡ verb_of word.now }
+{
+    match word {
+        "register" => Some(Verb::Register),
+        "verify" => Some(Verb::Verify),
+        "offsets" => Some(Verb::Offsets),
+        "repair" => Some(Verb::Repair),
+        _ => None,
+    }
+}
+
 /// The command that the words are. `Usage` comes exactly where the grammar refuses, with the index of the first
-/// word that breaks a rule, or the number of words where one is missing.
+/// word that breaks a rule, or the number of words where one is missing. An offset that was read is from -5,879 to 5,879.
 pub fn read_words(alloc: Global, words: &[String]) -> Result<Command, WordsFail>
-    ensures { Reads result (command_reading (texts words.now)) }
+    ensures value { Reads result (command_reading (texts words.now)) }
+    ensures offsets { IfOk result (λ read. IfSome (offset_in read) IsOffset) }
 {
     match words {
         [] => Err(WordsFail::Usage { word: 0 }),
-        [first, rest @ ..] => match first.as_str() {
-            "register" => read_register(alloc, rest),
-            _ => Err(WordsFail::Usage { word: 0 }),
+        [first, rest @ ..] => match verb_of(first.as_str()) {
+            Some(verb) => read_input(alloc, verb, rest),
+            None => Err(WordsFail::Usage { word: 0 }),
         },
     }
 }

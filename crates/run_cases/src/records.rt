@@ -27,7 +27,7 @@ fn refusal(alloc: Global, bytes: &[u8]) -> Option<RecordKind> {
 }
 
 // These bytes, with another byte at this place.
-fn changed(alloc: Global, bytes: &[u8], place: usize, byte: u8) -> Result<Vec<u8>, Fail> {
+pub fn changed(alloc: Global, bytes: &[u8], place: usize, byte: u8) -> Result<Vec<u8>, Fail> {
     let mut changed = bytes.to_vec(alloc)?;
     if place < changed.len() {
         changed[place] = byte;
@@ -77,12 +77,50 @@ fn each_check_refuses(rt: HostRuntime) -> Result<(), Fail> {
 fn a_stored_record_is_found(rt: HostRuntime) -> Result<(), Fail> {
     let alloc = rt.alloc();
     let mut shelf = MemoryShelf::new(alloc);
-    fill(&mut shelf, "r.rpar", &zero_record(alloc)?)?;
+    let whole = zero_record(alloc)?;
+    fill(&mut shelf, "r.rpar", &whole)?;
     let rec = find(alloc, &mut shelf, "r.rpar")?;
     assert_eq!(rt; (rec.layout.sectors, rec.parity.count()), (100, 8));
     assert_eq!(rt;
         find(alloc, &mut shelf, "r").err(),
         Some(FindFail::NoRecord)
     );
+    Ok(())
+}
+
+// The length of a record of 100 sectors in one track with eight parity words for each column.
+const WANTED: u64 = 188_216;
+
+#[test]
+fn a_damaged_record_is_refused(rt: HostRuntime) -> Result<(), Fail> {
+    let alloc = rt.alloc();
+    let mut shelf = MemoryShelf::new(alloc);
+    let whole = zero_record(alloc)?;
+    let shorter = &whole[..whole.len().saturating_sub(1)];
+    let mut longer = whole.to_vec(alloc)?;
+    longer.push(0)?;
+    let other = changed(alloc, &whole, 100_000, 1)?;
+    let table = [
+        (
+            shorter,
+            RecordKind::Length {
+                found: 188_215,
+                wanted: WANTED,
+            },
+        ),
+        (
+            longer.as_slice(),
+            RecordKind::Length {
+                found: 188_217,
+                wanted: WANTED,
+            },
+        ),
+        (other.as_slice(), RecordKind::Digest),
+    ];
+    for (bytes, kind) in table {
+        fill(&mut shelf, "r.rpar", bytes)?;
+        let refused = find(alloc, &mut shelf, "r.rpar").err();
+        assert_eq!(rt; refused, Some(FindFail::Refused { kind }));
+    }
     Ok(())
 }

@@ -1,35 +1,11 @@
 // Worked cases: records, refusals and faults.
-ghost use Rattle.std.specs.Prelude.{◌≤◌, length};
-
+use crate::made::{ramp, wav};
 use rip_engine::{Status, run};
 use rip_memory::{MemoryShelf, MemorySink, fill};
 use rip_outside::ShelfCall;
 use std::alloc::Global;
 use std::process::Abort;
 use std::test::Fail;
-use wav_frames::canonical_header;
-
-// The WAV file of these words.
-pub fn wav(alloc: Global, words: &[u16]) -> Result<Vec<u8>, Fail>
-    requires { length words.now ≤ 523908000 }
-{
-    let mut bytes = Vec::new(alloc);
-    bytes.extend_from_slice(&canonical_header(words.len() as u64))?;
-    for word in words {
-        bytes.extend_from_slice(&word.to_le_bytes())?;
-    }
-    Ok(bytes)
-}
-
-// Samples whose two words are both the sample's number.
-pub fn ramp(alloc: Global, samples: u16) -> Result<Vec<u16>, Fail> {
-    let mut words = Vec::new(alloc);
-    for n in 0..samples {
-        words.push(n)?;
-        words.push(n)?;
-    }
-    Ok(words)
-}
 
 // Puts a WAV file of zeros into the folder.
 fn fill_zeros(
@@ -144,7 +120,6 @@ fn parity_of_one_word_a_column_is_that_word(rt: HostRuntime) -> Result<(), Fail>
     let alloc = rt.alloc();
     let mut files = MemoryShelf::new(alloc);
     let words = ramp(alloc, 17_640)?;
-    assert!(rt; words.len() == 35_280);
     fill(&mut files, "a.wav", &wav(alloc, &words)?)?;
     let text = "registered r.rpar sectors 30 npar 8\n";
     assert_ran(&rt, alloc, &mut files, "register a.wav r.rpar", 0, text)?;
@@ -187,7 +162,7 @@ fn a_record_has_the_size_that_is_asked_for(rt: HostRuntime) -> Result<(), Fail> 
 // A line of words, the number with which its run ends, and its text.
 const REFUSALS: [(&str, u8, &str); 23] = [
     ("", 10, "usage word 0\n"),
-    ("verify w.wav r.rpar", 10, "usage word 0\n"),
+    ("verify w.wav r.rpar", 15, "no record r.rpar\n"),
     ("register", 10, "usage word 1\n"),
     ("register  r.rpar", 10, "usage word 1\n"),
     ("register -w r.rpar", 10, "usage word 1\n"),

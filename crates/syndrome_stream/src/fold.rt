@@ -28,8 +28,8 @@ fn fold_lanes(sums: u16x32, words: u16x32, m: u32) -> u16x32
     lanes ^ words
 }
 
-// A word times the m-th power of α, by m doublings.
-fn times_power(word: Gf, m: u32) -> Gf
+/// A word times the m-th power of α, by m doublings.
+pub fn times_power(word: Gf, m: u32) -> Gf
     ensures { result.0 ≡ alpha_power m ⊗ word.0 }
 {
     let mut product = word;

@@ -3,10 +3,12 @@
 
 mod fold;
 mod registers;
+mod starts;
 mod table;
 #[cfg(test)]
 mod tests;
 
 pub use fold::fold_stride;
 pub use registers::Registers;
+pub use starts::{PlainStarts, Starts};
 pub use table::Table;

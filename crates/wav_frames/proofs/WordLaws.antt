@@ -1,7 +1,11 @@
 -- Laws of words as bytes.
-use Rattle.std.proofs.Common.{◌≡◌, ℕ, zero, suc, ◌+◌, ◌-◌, ◌*◌, ◌/◌, ◌%◌, ◌<◌, ◌≤◌, List, [], ◌∷◌, ◌++◌, length, take, drop, refl, sym, ◌∙◌, ap, arith, length-append}
-use Rattle.std.proofs.lemmas.List.{drop-drop, drop-take, take-take}
-use Rattle.std.specs.Prelude.{slice_index}
+use Rattle.std.proofs.Common.{◌≡◌, ℕ, zero, suc, ◌+◌, ◌-◌, ◌*◌, ◌/◌, ◌%◌, ◌^◌, ◌<◌, ◌≤◌, List, [], ◌∷◌, ◌++◌, length, get_or, take, drop, refl, sym, ◌∙◌, ap, ap₂, arith, length-append}
+use Rattle.std.proofs.Math.Seq.{take-add}
+use Rattle.std.proofs.lemmas.List.{drop-drop, drop-take, take-take, take_more}
+use Rattle.std.specs.Int.{to_le_bytes, w16}
+use Rattle.std.specs.List.{flat_map}
+use Rattle.std.specs.Prelude.{slice_index, slice_range}
+use Rattle.byteorder.specs.Endian.{little_bytes}
 use Rattle.wav_frames.specs.Wav.{words_of, bytes_of, IsBytes, IsWords, header_of, wav_bytes}
 
 doubled : (n : ℕ) → 2 * suc n ≡ suc (suc (2 * n))
@@ -91,3 +95,35 @@ words_of-piece start words from count bytes inside =
     ∙ take-take count (words - from) (drop from (words_of (drop start bytes))) (omega arith)
     ∙ ap (take count) (sym (words_of-drop from (drop start bytes)) ∙ ap words_of (drop-drop (2 * from) start bytes))
     ∙ sym (words_of-take count (drop (start + 2 * from) bytes))
+
+-- ---- the bytes of words, one after another
+
+pub bytes_of-append : (front back : List ℕ) → bytes_of (front ++ back) ≡ bytes_of front ++ bytes_of back
+bytes_of-append [] back = refl
+bytes_of-append (word ∷ front) back = ap (λ bytes. word % 256 ∷ (word / 256 ∷ bytes)) (bytes_of-append front back)
+
+-- the bytes of the words so far, and of the next piece
+pub bytes_of-more : (n m : ℕ) (words : List ℕ) → bytes_of (take n words) ++ bytes_of (slice_range words n (n + m)) ≡ bytes_of (take (n + m) words)
+bytes_of-more n m words =
+    let size : n + m - n ≡ m = omega arith in
+    sym (bytes_of-append (take n words) (slice_range words n (n + m)))
+    ∙ ap bytes_of (ap (λ k. take n words ++ take k (drop n words)) size ∙ sym (take-add n m words))
+
+-- words as they are written, low byte first
+pub bytes_of-written : (words : List ℕ) → IsWords words → flat_map (little_bytes 2) words ≡ bytes_of words
+bytes_of-written [] are = refl
+bytes_of-written (word ∷ words) are =
+    let small : word < 65536 = are 0 0 (omega arith) in
+    let high : word / 256 % 256 ≡ word / 256 = omega arith in
+    ap₂ (λ h bytes. word % 256 ∷ (h ∷ bytes)) high (bytes_of-written words (λ k d h. are (suc k) d (omega arith)))
+
+-- the bytes of one word
+pub bytes_of-one : (word : ℕ) → word < 2 ^ 16 → to_le_bytes w16 word ≡ bytes_of (word ∷ [])
+bytes_of-one word fits = grind arith
+
+-- the bytes of the words so far, and of the next word
+pub bytes_of-next : (words : List ℕ) (i : ℕ) → i < length words → get_or words i 0 < 2 ^ 16
+    → bytes_of (take i words) ++ to_le_bytes w16 (get_or words i 0) ≡ bytes_of (take (i + 1) words)
+bytes_of-next words i within fits =
+    ap (λ more. bytes_of (take i words) ++ more) (bytes_of-one (get_or words i 0) fits)
+    ∙ sym (ap bytes_of (take_more words i 0 within) ∙ bytes_of-append (take i words) (get_or words i 0 ∷ []))

@@ -1,7 +1,7 @@
 -- What a call tells that looks where the words of a file stand.
 use Rattle.std.specs.Prelude.{◌≡◌, ℕ, ◌+◌, ◌*◌, ◌-◌, ◌%◌, ◌^◌, ◌≤◌, List, length, take, drop, Option, None, IsSomeAnd, IfSome, Result, Ok, Err}
 use Rattle.rip_outside.specs.declared.fault.ShelfCall.{ShelfCall}
-use Rattle.rip_outside.specs.Causes.{Rose, NoneFell, IsReadCall, IsWriteCall}
+use Rattle.rip_outside.specs.Causes.{KeepsWriteCounts, Rose, NoneFell, IsReadCall}
 use Rattle.rip_outside.specs.Files.{Files, bytes_at}
 use Rattle.wav_frames.specs.declared.fail.WavAt.{WavAt}
 use Rattle.wav_frames.specs.declared.fail.WavFail.{WavFail}
@@ -48,10 +48,6 @@ FaultHasCause before now result = Unit {0}
 abbrev pub NoFault : {T : Type 0} → Result T WavFail → Type 0
 NoFault (Err (ReadFault call)) = ⊥
 NoFault result = Unit {0}
-
--- no count of a writing call changes
-abbrev pub KeepsWriteCounts : (ShelfCall → ℕ) → (ShelfCall → ℕ) → Type 0
-KeepsWriteCounts before now = (call : ShelfCall) → IsWriteCall call → now call ≡ before call
 
 -- what is held stays, no count falls, and none of a writing call changes
 pub record OnlyReads (held_before held_now : Option Files) (before now : ShelfCall → ℕ) : Type 0 where

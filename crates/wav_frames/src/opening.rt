@@ -4,8 +4,8 @@ ghost use Rattle.std.specs.Str.{bytes_eq};
 ghost use Rattle.std.specs.Option.{ForSome};
 ghost use Rattle.std.specs.FinMap.{get};
 ghost use Rattle.rip_outside.specs.Files.{bytes_at};
-ghost use Rattle.rip_outside.specs.Causes.{NoneFell};
-ghost use Rattle.wav_frames.specs.Opening.{FaultHasCause, IsInFile, KeepsWriteCounts, OnlyReads, Opens, TakesAtMost, TakesWithin, Tells};
+ghost use Rattle.rip_outside.specs.Causes.{KeepsWriteCounts, NoneFell};
+ghost use Rattle.wav_frames.specs.Opening.{FaultHasCause, IsInFile, OnlyReads, Opens, TakesAtMost, TakesWithin, Tells};
 
 use crate::chunks::find_data;
 use crate::fail::{WavAt, WavFail, WavKind};

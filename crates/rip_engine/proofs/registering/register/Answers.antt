@@ -1,21 +1,16 @@
-use Rattle.std.proofs.Common.{◌≡◌, ◌∙◌, ◌+◌, ◌*◌, ◌≤◌, Option, Result, ℕ, List, [], ◌∷◌, length, Some, rules}
-use Rattle.std.specs.Prelude.{IfSome}
+use Rattle.std.proofs.Common.{◌≡◌, ◌∙◌, ℕ, List, [], ◌∷◌, length, Some, rules}
+use Rattle.std.specs.List.{list_any}
+use Rattle.std.specs.Str.{bytes_eq}
 use Rattle.std.proofs.lemmas.Result.{err_from_is_err_and}
-use Rattle.rip_outside.specs.Files.{Files, bytes_at}
-use Rattle.rip_outside.proofs.FilesLaws.{if_told_weaker}
+use Rattle.rip_outside.specs.Files.{Files, after_put, bytes_at}
 use Rattle.disc_toc.specs.Toc.{Toc, toc_of}
-use Rattle.disc_toc.specs.declared.layout.Layout.{Layout}
-use Rattle.column_map.specs.declared.shape.Shape.{Shape}
-use Rattle.wav_frames.specs.declared.fail.WavAt.{WavAt}
-use Rattle.rip_engine.specs.declared.steps.Stop.{Stop}
 use Rattle.wav_frames.specs.Opening.{wav_words}
-use Rattle.wav_frames.proofs.ReadingLaws.{length-wav_words}
-use Rattle.parity_store.specs.Put.{after_put}
 use Rattle.rip_words.specs.Command.{parity_words, part_of}
-use Rattle.rip_engine.specs.Steps.{opened, laid_out, free, Does}
+use Rattle.rip_engine.specs.Steps.{opened, laid_out, free}
 use Rattle.rip_engine.specs.Outcome.{Outcome, Then, done, record_of}
 use Rattle.rip_engine.specs.Texts.{registered_line}
 use Rattle.rip_engine.proofs.Leaving.{stopped, went_on, reads_nothing, refused_with_cause}
+use Rattle.rip_engine.proofs.PieceLaws.{laid_of}
 use Rattle.rip_engine.proofs.registering.register.Goals as goal
 
 -- what comes of a free name
@@ -29,14 +24,6 @@ checked count input rec files words toc = Then (free rec (input ∷ []) files) f
 -- what comes of the words
 abbrev laid : ℕ → List ℕ → List ℕ → Files → List ℕ → Outcome → Type 0
 laid count input rec files words = Then (laid_out (length words)) files (checked count input rec files words)
-
--- the layout of the words that were opened
-abbrev Laid : Option Files → List ℕ → WavAt → Result (Layout × Shape) Stop → Type 0
-Laid h0 input wav r = IfSome h0 (λ files. Does (λ found. toc_of found.0) r (laid_out (length (wav_words (bytes_at input files) wav))))
-
-laid_of : (h0 : Option Files) (input : List ℕ) (wav : WavAt) (r : Result (Layout × Shape) Stop) → IfSome h0 (λ files. wav.data_at + 2 * wav.words ≤ length (bytes_at input files))
-    → Does (λ found. toc_of found.0) r (laid_out wav.words) → Laid h0 input wav r
-laid_of h0 input wav r inside does = if_told_weaker h0 _ _ (λ files within. rw (length-wav_words (bytes_at input files) wav within) does) inside
 
 pub returns-in_err-layout-clause-cause : goal.returns-in_err-layout-clause-cause
 returns-in_err-layout-clause-cause g c =
@@ -67,12 +54,13 @@ returns-in_err-check_free-clause-leaves g c =
     let toc = toc_of c.in_ok-layout.layout in
     let words : Files → List ℕ = λ files. wav_words (bytes_at input files) wav in
     let p = err_from_is_err_and c.from_residual-in_err-check_free.result c.from_residual-in_err-check_free.ensures.1 in
+    let read : c.is_input-is_read.result ≡ list_any (bytes_eq (part_of rec)) (input ∷ []) = search rules in
     went_on (λ files at. wav_words (bytes_at input files) at) (opened input) (laid count input rec) (Some rec) h0 _ c.open_input.result wav c.from_residual-in_err-check_free.result
     (search rules) c.open_input.ensures.answer
     (went_on (λ _ found. toc_of found.0) (λ files. laid_out (length (words files))) (λ files. checked count input rec files (words files)) (Some rec) h0 _ c.lay_out.result (c.in_ok-layout.layout, c.in_ok-layout.shape) c.from_residual-in_err-check_free.result
     (search rules) (laid_of h0 input wav c.lay_out.result c.in_ok-wav.ensures.inside c.lay_out.ensures.answer)
     (stopped (λ _ _. tt) (free rec (input ∷ [])) (λ files _. recorded count rec files (words files) toc) (Some rec) _ _ h0 _ c.check_free.result p.0 c.from_residual-in_err-check_free.result
-    (search rules) p.1 (c.check_free.ensures.same ∙ c.open_input.ensures.same) c.check_free.ensures.cause (rw c.open_input.ensures.same at c.check_free.ensures.answer)))
+    (search rules) p.1 (c.check_free.ensures.same ∙ c.open_input.ensures.same) c.check_free.ensures.cause (rw (c.open_input.ensures.same, read) at c.check_free.ensures.answer)))
 
 pub returns-clause-leaves : goal.returns-clause-leaves
 returns-clause-leaves g c =
@@ -83,10 +71,11 @@ returns-clause-leaves g c =
     let wav = c.in_ok-wav.wav in
     let toc = toc_of c.in_ok-layout.layout in
     let words : Files → List ℕ = λ files. wav_words (bytes_at input files) wav in
-    let part : c.as_str-2.result.now ≡ part_of rec = search rules in
+    let read : c.is_input-is_read.result ≡ list_any (bytes_eq (part_of rec)) (input ∷ []) = search rules in
+    let part : c.as_str-3.result.now ≡ part_of rec = search rules in
     went_on (λ files at. wav_words (bytes_at input files) at) (opened input) (laid count input rec) (Some rec) h0 _ c.open_input.result wav c.store.result
     (search rules) c.open_input.ensures.answer
     (went_on (λ _ found. toc_of found.0) (λ files. laid_out (length (words files))) (λ files. checked count input rec files (words files)) (Some rec) h0 _ c.lay_out.result (c.in_ok-layout.layout, c.in_ok-layout.shape) c.store.result
     (search rules) (laid_of h0 input wav c.lay_out.result c.in_ok-wav.ensures.inside c.lay_out.ensures.answer)
     (went_on (λ _ _. tt) (free rec (input ∷ [])) (λ files _. recorded count rec files (words files) toc) (Some rec) h0 _ c.check_free.result c.in_ok-check_free.field-0 c.store.result
-    (search rules) (rw c.open_input.ensures.same at c.check_free.ensures.answer) (rw (c.check_free.ensures.same, c.open_input.ensures.same, part) at c.store.ensures.leaves)))
+    (search rules) (rw (c.open_input.ensures.same, read) at c.check_free.ensures.answer) (rw (c.check_free.ensures.same, c.open_input.ensures.same, part) at c.store.ensures.leaves)))

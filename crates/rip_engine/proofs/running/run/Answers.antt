@@ -1,6 +1,7 @@
 use Rattle.rip_outside.specs.Seen.{seen}
 use Rattle.rip_words.specs.Command.{command_reading, texts}
 use Rattle.rip_engine.proofs.StoredLaws.{stored_by}
+use Rattle.rip_engine.proofs.Headline.{finds_damaged_of, repairs_of}
 use Rattle.rip_engine.proofs.Ending.{decides, read_has_cause, write_has_cause, sink_has_cause, memory_keeps, nothing_written, completes}
 use Rattle.rip_engine.proofs.running.run.Goals as goal
 
@@ -36,3 +37,18 @@ returns-clause-nothing_written g c = nothing_written (command_reading (texts c.a
 pub returns-clause-completes : goal.returns-clause-completes
 returns-clause-completes g c = completes (command_reading (texts c.args.words.now)) (seen g.F.Shelf g.K.Sink c.args.files.now c.args.out.now) (seen g.F.Shelf g.K.Sink c.perform-performed.new.shelf c.conclude.new.out) c.conclude.result c.perform-performed.result
     (record { leaves = c.perform-performed.ensures.leaves; cause = c.perform-performed.ensures.cause; reads = c.perform-performed.ensures.reads; concluded = c.conclude.ensures })
+
+pub returns-clause-repairs : goal.returns-clause-repairs
+returns-clause-repairs g c = repairs_of (command_reading (texts c.args.words.now)) (seen g.F.Shelf g.K.Sink c.args.files.now c.args.out.now) (seen g.F.Shelf g.K.Sink c.perform-performed.new.shelf c.conclude.new.out) c.conclude.result
+    (decides (command_reading (texts c.args.words.now)) (seen g.F.Shelf g.K.Sink c.args.files.now c.args.out.now) (seen g.F.Shelf g.K.Sink c.perform-performed.new.shelf c.conclude.new.out) c.conclude.result c.perform-performed.result
+    (record { leaves = c.perform-performed.ensures.leaves; cause = c.perform-performed.ensures.cause; reads = c.perform-performed.ensures.reads; concluded = c.conclude.ensures }))
+    (completes (command_reading (texts c.args.words.now)) (seen g.F.Shelf g.K.Sink c.args.files.now c.args.out.now) (seen g.F.Shelf g.K.Sink c.perform-performed.new.shelf c.conclude.new.out) c.conclude.result c.perform-performed.result
+    (record { leaves = c.perform-performed.ensures.leaves; cause = c.perform-performed.ensures.cause; reads = c.perform-performed.ensures.reads; concluded = c.conclude.ensures }))
+
+pub returns-clause-finds_damaged : goal.returns-clause-finds_damaged
+returns-clause-finds_damaged g c = finds_damaged_of (command_reading (texts c.args.words.now)) (seen g.F.Shelf g.K.Sink c.args.files.now c.args.out.now) (seen g.F.Shelf g.K.Sink c.perform-performed.new.shelf c.conclude.new.out) c.conclude.result
+    (decides (command_reading (texts c.args.words.now)) (seen g.F.Shelf g.K.Sink c.args.files.now c.args.out.now) (seen g.F.Shelf g.K.Sink c.perform-performed.new.shelf c.conclude.new.out) c.conclude.result c.perform-performed.result
+    (record { leaves = c.perform-performed.ensures.leaves; cause = c.perform-performed.ensures.cause; reads = c.perform-performed.ensures.reads; concluded = c.conclude.ensures }))
+    (completes (command_reading (texts c.args.words.now)) (seen g.F.Shelf g.K.Sink c.args.files.now c.args.out.now) (seen g.F.Shelf g.K.Sink c.perform-performed.new.shelf c.conclude.new.out) c.conclude.result c.perform-performed.result
+    (record { leaves = c.perform-performed.ensures.leaves; cause = c.perform-performed.ensures.cause; reads = c.perform-performed.ensures.reads; concluded = c.conclude.ensures }))
+    (returns-clause-repairs g c)

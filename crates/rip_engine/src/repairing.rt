@@ -1,0 +1,96 @@
+// `repair`: a rip is written anew, mended by a record.
+ghost use Rattle.std.specs.Prelude.{◌≡◌, ◌≢◌, ◌<◌, All, IfSome, Some, None};
+ghost use Rattle.std.specs.Option.{ForSome};
+ghost use Rattle.std.specs.List.Sorted.{IsStrictlyIncreasing};
+ghost use Rattle.std.specs.FinMap.{get};
+ghost use Rattle.rip_outside.specs.Files.{after_put};
+ghost use Rattle.column_map.specs.Columns.{IsOffset};
+ghost use Rattle.column_map.specs.Mending.{places};
+ghost use Rattle.wav_frames.specs.Wav.{wav_bytes};
+ghost use Rattle.image_mender.specs.declared.image.Part.{Part};
+ghost use Rattle.image_mender.specs.Joined.{AreInFiles, joined_words, word_count};
+ghost use Rattle.image_mender.specs.Patched.{patched};
+ghost use Rattle.rip_words.specs.Command.{part_of};
+ghost use Rattle.rip_engine.specs.Steps.{StopsWithCause, mend_stop};
+ghost use Rattle.rip_engine.specs.Texts.{written_text};
+ghost use Rattle.rip_engine.specs.Outcome.{IsRepairOutcome, Leaves, done};
+
+use crate::comparing::{Compared, compare};
+use crate::picking::{Picked, pick_of};
+use crate::reading::{PIECE, read_all, zero_bytes, zero_words};
+use crate::steps::{Stop, check_free, is_input_or_record, part_name};
+use crate::texts::written_text;
+use image_mender::{Image, MendFail, write_mended};
+use rip_outside::{Shelf, Text};
+use std::alloc::Global;
+
+fn mend_stop(fail: MendFail) -> Stop
+    ensures { result ≡ mend_stop fail }
+{
+    match fail {
+        MendFail::ReadFault { call } => Stop::ReadFault { call },
+        MendFail::WriteFault { call } => Stop::WriteFault { call },
+        MendFail::Oom => Stop::Oom,
+    }
+}
+
+// Writes the rip's words, mended, under the output's name. All memory is taken before.
+fn write_repair<S: Shelf>(
+    alloc: Global,
+    shelf: &mut S,
+    image: &Image,
+    picked: &Picked,
+    part: &str,
+    to: &str,
+) -> Result<Text, Stop>
+    requires part { part.now ≡ part_of to.now }
+    requires free { ForSome (S.held shelf.old) (λ files. get files to.now ≡ None) }
+    requires inside { ForSome (S.held shelf.old) (AreInFiles image.now) }
+    requires apart { All (λ (p : Part). p.name ≢ part.now) image.now }
+    requires rising { IsStrictlyIncreasing (places picked.now.fixes.items) }
+    requires lie { All (λ place. place < word_count image.now) (places picked.now.fixes.items) }
+    ensures leaves { IfSome (S.held shelf.old) (λ files. Leaves (λ o. o ≡ done (written_text picked.now.at to.now) (after_put part.now to.now (wav_bytes (patched picked.now.fixes.items (joined_words image.now files))) files)) (Some to.now) files result (S.held shelf.new)) }
+    ensures cause { StopsWithCause (S.faults shelf.old) (S.faults shelf.new) result }
+{
+    let text = written_text(alloc, picked.at, to)?;
+    let mut words = zero_words(alloc, PIECE)?;
+    let mut bytes = zero_bytes(alloc, 2 * PIECE)?;
+    match write_mended(
+        shelf,
+        image,
+        &picked.fixes,
+        part,
+        to,
+        &mut words,
+        &mut bytes,
+    ) {
+        Ok(()) => Ok(text),
+        Err(fail) => Err(mend_stop(fail)),
+    }
+}
+
+/// Writes a rip, mended by a record, under the output's name: at the given offset or at the only one.
+pub fn repair<S: Shelf>(
+    alloc: Global,
+    shelf: &mut S,
+    input: &str,
+    rec: &str,
+    to: &str,
+    offset: Option<i32>,
+) -> Result<Text, Stop>
+    requires { IfSome offset IsOffset }
+    ensures leaves { IfSome (S.held shelf.old) (λ files. Leaves (IsRepairOutcome input.now rec.now to.now offset files) (Some to.now) files result (S.held shelf.new)) }
+    ensures cause { StopsWithCause (S.faults shelf.old) (S.faults shelf.new) result }
+{
+    let Compared {
+        image,
+        shape,
+        parity,
+    } = compare(alloc, shelf, input, rec)?;
+    let part = part_name(alloc, to)?;
+    let is_read = is_input_or_record(part.as_str(), input, rec);
+    check_free(alloc, shelf, to, part.as_str(), is_read)?;
+    let words = read_all(alloc, shelf, &image)?;
+    let picked = pick_of(alloc, shape, words, parity, offset, true)?;
+    write_repair(alloc, shelf, &image, &picked, part.as_str(), to)
+}
