@@ -2,6 +2,8 @@
 //! images that are read in pieces. With them come the words and the files that the cases are made of.
 #![tactic(auto)]
 
+#[cfg(test)]
+mod ids;
 mod made;
 #[cfg(test)]
 mod pieces;
@@ -13,6 +15,10 @@ mod repairs;
 mod rips;
 #[cfg(test)]
 mod runs;
+#[cfg(test)]
+mod sheets;
+#[cfg(test)]
+mod slides;
 #[cfg(test)]
 mod verifies;
 #[cfg(test)]

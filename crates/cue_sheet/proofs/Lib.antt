@@ -1,0 +1,4 @@
+pub mod LineLaws
+pub mod SoundLaws
+pub mod TextLaws
+pub mod ReadingLaws

@@ -1,0 +1,5 @@
+pub mod Lines
+pub mod Parts
+pub mod Sheet
+pub mod Reading
+pub mod Progress

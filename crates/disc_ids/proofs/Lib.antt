@@ -1,0 +1,4 @@
+pub mod DigestLaws
+pub mod NumberLaws
+pub mod PlaceLaws
+pub mod TextLaws

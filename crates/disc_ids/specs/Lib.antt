@@ -1,0 +1,4 @@
+pub mod Digest
+pub mod Numbers
+pub mod Places
+pub mod Texts
