@@ -1,7 +1,7 @@
 -- What commands come to.
-use Rattle.std.proofs.Common.{◌≡◌, ◌≢◌, ◌∙◌, ◌+◌, ◌*◌, ◌<◌, ◌≤◌, ℕ, List, [], ◌∷◌, length, Option, Some, Result, IfSome, All, true, false, refl, ap, subst, eq-eqb, arith, ℤ}
+use Rattle.std.proofs.Common.{◌≡◌, ◌≢◌, ◌∙◌, ◌+◌, ◌*◌, ◌<◌, ◌≤◌, ℕ, List, [], ◌∷◌, length, Option, Some, Result, Ok, Err, IfOk, IfSome, All, true, false, refl, ap, eq-eqb, arith, ℤ}
 use Rattle.rip_outside.specs.Files.{Files, after_put}
-use Rattle.rip_outside.proofs.FilesLaws.{if_told_both, if_told_weaker}
+use Rattle.rip_outside.proofs.FilesLaws.{if_told_both}
 use Rattle.std.specs.List.{list_any}
 use Rattle.std.specs.Str.{bytes_eq}
 use Rattle.std.proofs.lemmas.Slice.Eq.{bytes_eq-Decides}
@@ -13,17 +13,17 @@ use Rattle.image_mender.specs.Joined.{joined_words}
 use Rattle.image_mender.specs.Patched.{patched}
 use Rattle.image_mender.proofs.MendedLaws.{patched_mended, places_inside}
 use Rattle.rip_words.specs.Command.{part_of}
-use Rattle.parity_store.specs.Record.{count_of, rows_of}
 use Rattle.column_map.specs.declared.candidate.Candidate.{Candidate}
 use Rattle.rip_engine.specs.Comparing.{known_of}
 use Rattle.rip_engine.specs.Steps.{Known, Meets}
-use Rattle.rip_engine.specs.Picking.{AreKnownCandidates, AreMended, Mends, Picks}
+use Rattle.rip_engine.specs.Picking.{AreMended, LieBelow, Mends, Picks}
 use Rattle.rip_engine.specs.declared.comparing.Compared.{Compared}
 use Rattle.rip_engine.specs.declared.picking.Picked.{Picked}
 use Rattle.rip_engine.specs.declared.steps.Stop.{Stop}
 use Rattle.rip_engine.specs.Texts.{offsets_text, verified_text, written_text}
 use Rattle.rip_engine.specs.Outcome.{IsWrittenOutcome, Leaves, done, judged, listed}
 use Rattle.rip_engine.proofs.Leaving.{leaves_weaker}
+use Rattle.rip_engine.proofs.PickLaws.{picked_offset}
 
 -- a rip without wrong words is whole
 pub judged_whole : (at : Candidate) (files : Files) → at.errors ≡ 0 → judged at files ≡ done (verified_text at) files
@@ -33,22 +33,6 @@ judged_whole at files none = rw (eq-eqb at.errors 0 none) refl
 pub listed_some : (found : List Candidate) (files : Files) → 1 ≤ length found → listed found files ≡ done (offsets_text found) files
 listed_some [] files some = absurd (omega arith)
 listed_some (at ∷ rest) files some = refl
-
--- ---- what was picked, by the words that were read
-
--- a rip of these words
-abbrev pub known_with : Compared → List ℕ → Known
-known_with found words = record { sectors = found.shape; words = words; count = count_of found.parity; stored = rows_of found.parity }
-
-pub picks_of : (h : Option Files) (found : Compared) (words : List ℕ) (offset : Option ℤ) (r : Result Picked Stop) → IfSome h (λ files. words ≡ joined_words found.image files)
-    → Meets (λ (picked : Picked). picked.at) r (Picks offset (known_with found words)) → IfSome h (λ files. Meets (λ (picked : Picked). picked.at) r (Picks offset (known_of files found)))
-picks_of h found words offset r read meets = if_told_weaker h (λ files. words ≡ joined_words found.image files) _ (λ files same.
-    let P : List ℕ → Type 0 = λ w. Meets (λ (picked : Picked). picked.at) r (Picks offset (known_with found w)) in subst P same meets) read
-
-pub listed_of : (h : Option Files) (found : Compared) (words : List ℕ) (list : List Candidate) → IfSome h (λ files. words ≡ joined_words found.image files)
-    → AreKnownCandidates (known_with found words) list → IfSome h (λ files. AreKnownCandidates (known_of files found) list)
-listed_of h found words list read are = if_told_weaker h (λ files. words ≡ joined_words found.image files) _ (λ files same.
-    let P : List ℕ → Type 0 = λ w. AreKnownCandidates (known_with found w) list in subst P same are) read
 
 -- ---- what is mended
 
@@ -64,17 +48,30 @@ module _ (known : Known) (at : Candidate) (fixes : List Fix) (range : IsSectorCo
   pub fixes_mend : AreMended known at.offset (patched fixes known.words)
   fixes_mend = (mends.0, mends.1, patched_mended (per_column known.sectors) known.words at.offset mends.0 fixes offset enough mends.2)
 
--- the mended rip that was written, by the words that were read
-pub written_of : (h0 h : Option Files) (found : Compared) (words : List ℕ) (at : Candidate) (fixes : List Fix) (part to : List ℕ) (r : Result (List ℕ) Stop) → part ≡ part_of to
-    → IfSome h0 (λ files. words ≡ joined_words found.image files) → AreMended (known_with found words) at.offset (patched fixes words)
+-- what is found with an offset that is picked lies in the rip
+pub lie_of : (offset : Option ℤ) (known : Known) (end : ℕ) (r : Result Picked Stop) → IsSectorCount known.sectors → length known.words ≡ 1176 * known.sectors → end ≡ 1176 * known.sectors
+    → Meets (λ (picked : Picked). picked.at) r (Picks offset known) → IfOk r (λ picked. Mends known picked.at picked.fixes.items) → IfOk r (λ picked. LieBelow end picked.fixes.items)
+lie_of offset known end (Ok picked) range long whole picks mends = record {
+  rising = mends.2.rising;
+  below = λ k d below. let inside = fixes_lie known picked.at picked.fixes.items range long (picked_offset offset known picked.at picks) mends k d below in omega (arith, inside);
+}
+lie_of offset known end (Err stop) range long whole picks mends = tt
+
+-- the mended rip that was written
+pub written_of : (h0 h : Option Files) (found : Compared) (given : Option ℤ) (at : Candidate) (fixes : List Fix) (part to : List ℕ) (r : Result (List ℕ) Stop) → part ≡ part_of to → IsSectorCount found.shape
+    → IfSome h0 (λ files. length (joined_words found.image files) ≡ 1176 * found.shape)
+    → IfSome h0 (λ files. Picks given (known_of files found) (Ok at)) → IfSome h0 (λ files. Mends (known_of files found) at fixes)
     → IfSome h0 (λ files. Leaves (λ o. o ≡ done (written_text at to) (after_put part to (wav_bytes (patched fixes (joined_words found.image files))) files)) (Some to) files r h)
     → IfSome h0 (λ files. Leaves (IsWrittenOutcome to (known_of files found) at files) (Some to) files r h)
-written_of h0 h found words at fixes part to r named read mended = if_told_both h0 (λ files. words ≡ joined_words found.image files) _ _ (λ files same left.
-    let W : List ℕ → Type 0 = λ w. AreMended (known_with found w) at.offset (patched fixes w) in
-    let mended' : AreMended (known_of files found) at.offset (patched fixes (joined_words found.image files)) = subst W same mended in
-    let written : Files = after_put part to (wav_bytes (patched fixes (joined_words found.image files))) files in
+written_of h0 h found given at fixes part to r named range long picks mends left =
+    if_told_both h0 (λ files. (length (joined_words found.image files) ≡ 1176 * found.shape) × Picks given (known_of files found) (Ok at)) (λ files. Mends (known_of files found) at fixes × Leaves (λ o. o ≡ done (written_text at to) (after_put part to (wav_bytes (patched fixes (joined_words found.image files))) files)) (Some to) files r h) _
+    (λ files known done_so.
+    let words = joined_words found.image files in
+    let mended : AreMended (known_of files found) at.offset (patched fixes words) = fixes_mend (known_of files found) at fixes range known.0 (picked_offset given (known_of files found) at known.1) done_so.0 in
+    let written : Files = after_put part to (wav_bytes (patched fixes words)) files in
     leaves_weaker (λ o. o ≡ done (written_text at to) written) (IsWrittenOutcome to (known_of files found) at files) (Some to) files r h
-    (λ o is. (patched fixes (joined_words found.image files), mended', is ∙ ap (λ p. done (written_text at to) (after_put p to (wav_bytes (patched fixes (joined_words found.image files))) files)) named)) left) read
+    (λ o is. (patched fixes words, mended, is ∙ ap (λ p. done (written_text at to) (after_put p to (wav_bytes (patched fixes words)) files)) named)) done_so.1)
+    (if_told_both h0 _ _ _ (λ files a b. (a, b)) long picks) (if_told_both h0 _ _ _ (λ files a b. (a, b)) mends left)
 
 -- a part that isn't read has another name than the rip
 pub unread_differs : (part input rec : List ℕ) → list_any (bytes_eq part) (input ∷ (rec ∷ [])) ≡ false → input ≢ part

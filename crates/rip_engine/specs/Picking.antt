@@ -1,9 +1,12 @@
 -- The offset at which a rip is taken to stand: the given one, or the only one of the range.
-use Rattle.std.specs.Prelude.{◌≡◌, ℕ, List, [], ◌∷◌, Result, Ok, Err, Option, None, Some, ℤ}
+use Rattle.std.specs.List.Sorted.{IsStrictlyIncreasing}
+use Rattle.std.specs.Prelude.{◌≡◌, ◌<◌, ℕ, All, List, [], ◌∷◌, Result, Ok, Err, Option, None, Some, ℤ}
 use Rattle.column_map.specs.Columns.{WordTable, per_column}
-use Rattle.column_map.specs.Mending.{AreFixes, IsMended}
+use Rattle.column_map.specs.Mending.{AreFixes, IsMended, places}
 use Rattle.column_map.specs.declared.candidate.Candidate.{Candidate}
 use Rattle.column_map.specs.declared.candidate.Fix.{Fix}
+use Rattle.syndrome_stream.specs.Starts.{StartsStandFor}
+use Rattle.offset_slide.specs.Slides.{KeptRows, row_at_start}
 use Rattle.offset_search.specs.Near.{AreCandidates, AreFirstCandidates, Fits, IsCandidate, IsFirstUnfit}
 use Rattle.rip_engine.specs.Steps.{Known}
 use Rattle.rip_engine.specs.declared.status.Status.{Status}
@@ -42,3 +45,12 @@ Mends known at fixes = (table : WordTable) × FitsKnown known at.offset table ×
 -- the rip's words, mended at an offset by a table that fits there
 abbrev pub AreMended : Known → ℤ → List ℕ → Type 0
 AreMended known d mended = (table : WordTable) × FitsKnown known d table × IsMended (per_column known.sectors) known.words d table mended
+
+-- slides stand for an image
+abbrev pub StandFor : ℕ → KeptRows → List ℕ → Type 0
+StandFor count slides y = StartsStandFor count slides.sectors (row_at_start slides) y
+
+-- the places of fixes rise, and are below this
+pub record LieBelow (end : ℕ) (fixes : List Fix) : Type 0 where
+  pub rising : IsStrictlyIncreasing (places fixes)
+  pub below : All (λ place. place < end) (places fixes)

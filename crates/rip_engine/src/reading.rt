@@ -1,9 +1,10 @@
 // The rip's words, read once in pieces.
-ghost use Rattle.std.specs.Prelude.{◌≡◌, ◌+◌, ◌*◌, ◌^◌, ◌<◌, ◌≤◌, ◌∷◌, [], ℕ, vec_len, IfSome, IfOk};
+ghost use Rattle.std.specs.Prelude.{◌≡◌, ◌+◌, ◌*◌, ◌^◌, ◌<◌, ◌≤◌, ◌∷◌, [], ℕ, List, vec_len, IfSome, IfOk};
 ghost use Rattle.std.specs.Option.{ForSome};
 ghost use Rattle.rip_outside.specs.Causes.{NoneFell};
 ghost use Rattle.column_map.specs.Columns.{per_column};
 ghost use Rattle.syndrome_stream.specs.Parity.{image_parity};
+ghost use Rattle.offset_slide.specs.Slides.{TableAndEdgesStandFor};
 ghost use Rattle.image_mender.specs.Joined.{AreInFiles, joined_words, word_count};
 ghost use Rattle.rip_words.specs.Command.{parity_words};
 ghost use Rattle.parity_store.specs.Record.{count_of, rows_of};
@@ -12,6 +13,7 @@ ghost use Rattle.rip_engine.specs.Steps.{OnlyReads};
 use crate::steps::{Stop, name_of};
 use column_map::Shape;
 use image_mender::{Image, Part};
+use offset_slide::Edges;
 use parity_store::Parity;
 use rip_outside::{Oom, Shelf, ShelfCall};
 use rip_words::Npar;
@@ -61,22 +63,25 @@ pub fn sole_image(alloc: Global, input: &str, wav: WavAt) -> Result<Image, Oom>
     }
 }
 
-/// Reads the rip's words once, in pieces, and sums the parity of its columns.
-pub fn sum_parity<const P: usize, S: Shelf>(
+/// Reads the rip's words once, in pieces: the parity of its columns is summed, and its edges are kept.
+pub fn sum_rip<const P: usize, S: Shelf>(
     alloc: Global,
     shelf: &mut S,
     image: &Image,
     shape: Shape,
-) -> Result<Table<P>, Stop>
+) -> Result<(Table<P>, Edges), Stop>
     requires size { P ≤ 32 }
     requires inside { ForSome (S.held shelf.old) (AreInFiles image.now) }
     requires count { word_count image.now ≡ 1176 * shape }
-    ensures parity { IfSome (S.held shelf.old) (λ files. IfOk result (λ table. table ≡ image_parity P (per_column shape) (joined_words image.now files))) }
+    ensures sectors { IfOk result (λ summed. summed.1.sectors ≡ shape) }
+    ensures parity { IfSome (S.held shelf.old) (λ files. IfOk result (λ summed. summed.0 ≡ image_parity P (per_column shape) (joined_words image.now files))) }
+    ensures stands { IfOk result (λ summed. (y : List ℕ) × TableAndEdgesStandFor P summed.0 summed.1 y × IfSome (S.held shelf.old) (λ files. y ≡ joined_words image.now files)) }
     ensures same { S.held shelf.new ≡ S.held shelf.old }
     ensures cause { OnlyReads (S.faults shelf.old) (S.faults shelf.new) result }
     ensures later { NoneFell (S.faults shelf.old) (S.faults shelf.new) }
 {
     let mut registers = Registers::<P>::new(alloc, shape)?;
+    let mut edges = Edges::new(alloc, shape)?;
     let mut scratch = zero_bytes(alloc, 2 * PIECE)?;
     let mut words = zero_words(alloc, PIECE)?;
     let all = image.words();
@@ -90,9 +95,10 @@ pub fn sum_parity<const P: usize, S: Shelf>(
             });
         };
         registers.absorb(piece);
+        edges.absorb(piece);
         at += count as u64;
     }
-    Ok(registers.finish())
+    Ok((registers.finish(), edges))
 }
 
 /// The parity of the rip, so many words for each column.
@@ -112,36 +118,17 @@ pub fn parity_of<S: Shelf>(
     ensures later { NoneFell (S.faults shelf.old) (S.faults shelf.new) }
 {
     match npar {
-        Npar::Four => match sum_parity::<4, S>(alloc, shelf, image, shape) {
-            Ok(table) => Ok(Parity::Four(table)),
+        Npar::Four => match sum_rip::<4, S>(alloc, shelf, image, shape) {
+            Ok((table, _)) => Ok(Parity::Four(table)),
             Err(stop) => Err(stop),
         },
-        Npar::Eight => match sum_parity::<8, S>(alloc, shelf, image, shape) {
-            Ok(table) => Ok(Parity::Eight(table)),
+        Npar::Eight => match sum_rip::<8, S>(alloc, shelf, image, shape) {
+            Ok((table, _)) => Ok(Parity::Eight(table)),
             Err(stop) => Err(stop),
         },
-        Npar::Sixteen => match sum_parity::<16, S>(alloc, shelf, image, shape) {
-            Ok(table) => Ok(Parity::Sixteen(table)),
+        Npar::Sixteen => match sum_rip::<16, S>(alloc, shelf, image, shape) {
+            Ok((table, _)) => Ok(Parity::Sixteen(table)),
             Err(stop) => Err(stop),
         },
-    }
-}
-
-/// Reads all of the rip's words.
-pub fn read_all<S: Shelf>(alloc: Global, shelf: &mut S, image: &Image) -> Result<Vec<u16>, Stop>
-    requires { ForSome (S.held shelf.old) (AreInFiles image.now) }
-    ensures words { IfSome (S.held shelf.old) (λ files. IfOk result (λ words. words.items ≡ joined_words image.now files)) }
-    ensures long { IfOk result (λ words. vec_len words ≡ word_count image.now) }
-    ensures same { S.held shelf.new ≡ S.held shelf.old }
-    ensures cause { OnlyReads (S.faults shelf.old) (S.faults shelf.new) result }
-    ensures later { NoneFell (S.faults shelf.old) (S.faults shelf.new) }
-{
-    let mut scratch = zero_bytes(alloc, 2 * PIECE)?;
-    let mut words = zero_words(alloc, image.words() as usize)?;
-    match image.read(shelf, 0, &mut words, &mut scratch) {
-        Ok(()) => Ok(words),
-        Err(_) => Err(Stop::ReadFault {
-            call: ShelfCall::ReadAt,
-        }),
     }
 }

@@ -17,7 +17,7 @@ ghost use Rattle.rip_engine.specs.Outcome.{IsRepairOutcome, Leaves, done};
 
 use crate::comparing::{Compared, compare};
 use crate::picking::{Picked, pick_of};
-use crate::reading::{PIECE, read_all, zero_bytes, zero_words};
+use crate::reading::{PIECE, zero_bytes, zero_words};
 use crate::steps::{Stop, check_free, is_input_or_record, part_name};
 use crate::texts::written_text;
 use image_mender::{Image, MendFail, write_mended};
@@ -90,7 +90,6 @@ pub fn repair<S: Shelf>(
     let part = part_name(alloc, to)?;
     let is_read = is_input_or_record(part.as_str(), input, rec);
     check_free(alloc, shelf, to, part.as_str(), is_read)?;
-    let words = read_all(alloc, shelf, &image)?;
-    let picked = pick_of(alloc, shape, words, parity, offset, true)?;
+    let picked = pick_of(alloc, shelf, &image, shape, parity, offset, true)?;
     write_repair(alloc, shelf, &image, &picked, part.as_str(), to)
 }

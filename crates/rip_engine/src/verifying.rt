@@ -7,7 +7,6 @@ ghost use Rattle.rip_engine.specs.Outcome.{IsOffsetsOutcome, IsVerifyOutcome, Le
 
 use crate::comparing::{Compared, compare};
 use crate::picking::{list_of, pick_of};
-use crate::reading::read_all;
 use crate::status::Status;
 use crate::steps::Stop;
 use crate::texts::{offsets_text, verified_text};
@@ -59,8 +58,7 @@ pub fn verify<S: Shelf>(
         shape,
         parity,
     } = compare(alloc, shelf, input, rec)?;
-    let words = read_all(alloc, shelf, &image)?;
-    let picked = pick_of(alloc, shape, words, parity, offset, false)?;
+    let picked = pick_of(alloc, shelf, &image, shape, parity, offset, false)?;
     judge(alloc, picked.at)
 }
 
@@ -74,7 +72,6 @@ pub fn offsets<S: Shelf>(alloc: Global, shelf: &mut S, input: &str, rec: &str) -
         shape,
         parity,
     } = compare(alloc, shelf, input, rec)?;
-    let words = read_all(alloc, shelf, &image)?;
-    let found = list_of(alloc, shape, words, parity)?;
+    let found = list_of(alloc, shelf, &image, shape, parity)?;
     tell(alloc, &found)
 }

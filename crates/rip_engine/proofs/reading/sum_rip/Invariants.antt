@@ -1,9 +1,10 @@
-use Rattle.std.proofs.Common.{◌≡◌, ◌-◌, ◌≤◌, take, vec_len}
+use Rattle.std.proofs.Common.{◌≡◌, ◌-◌, ◌≤◌, ℕ, List, take, vec_len}
 use Rattle.std.specs.Prelude.{IfSome}
 use Rattle.rip_outside.specs.Causes.{NoneFell}
 use Rattle.syndrome_stream.specs.Registers.{StandsFor}
+use Rattle.offset_slide.specs.Edges.{EdgesStandFor}
 use Rattle.image_mender.specs.Joined.{joined_words}
-use Rattle.rip_engine.proofs.reading.sum_parity.Given as goal
+use Rattle.rip_engine.proofs.reading.sum_rip.Given as goal
 
 abbrev pub invariant-pieces : goal.invariant-pieces
 invariant-pieces g l = record {
@@ -12,9 +13,11 @@ invariant-pieces g l = record {
   words : vec_len l.words ≡ 65536;
   sectors : l.registers.sectors ≡ l.fn.shape;
   position : l.registers.position ≡ l.at;
+  edge_sectors : l.edges.sectors ≡ l.fn.shape;
+  edge_position : l.edges.position ≡ l.at;
   same : g.S.Shelf.held l.shelf ≡ g.S.Shelf.held l.fn.shelf;
   later : NoneFell (g.S.Shelf.faults l.fn.shelf) (g.S.Shelf.faults l.shelf);
-  stands : IfSome (g.S.Shelf.held l.fn.shelf) (λ files. StandsFor g.row.P l.registers (take l.at (joined_words l.image files)));
+  stands : (y : List ℕ) × StandsFor g.row.P l.registers y × EdgesStandFor l.edges y × IfSome (g.S.Shelf.held l.fn.shelf) (λ files. y ≡ take l.at (joined_words l.image files));
 }
 
 abbrev pub decreases-pieces : goal.decreases-pieces
