@@ -35,8 +35,13 @@ pub record IsSound (state : State) : Type 0 where
   pub timed : IsTime state.time
   pub pregap_timed : IfSome state.pregap IsTime
 
--- a line is read exactly as it says, or memory was wanting
-abbrev pub Steps : {T : Type 0} → Result T LineFail → Result State CueKind → State → Type 0
+-- a line is read exactly as it says
+abbrev pub Steps : {T : Type 0} → Result T CueKind → Result State CueKind → State → Type 0
 Steps (Ok done) reading now = reading ≡ Ok now
-Steps (Err (Refused kind)) reading now = reading ≡ Err kind
-Steps (Err Oom) reading now = Unit {0}
+Steps (Err kind) reading now = reading ≡ Err kind
+
+-- the same, or memory was wanting
+abbrev pub StepsOrWants : {T : Type 0} → Result T LineFail → Result State CueKind → State → Type 0
+StepsOrWants (Ok done) reading now = reading ≡ Ok now
+StepsOrWants (Err (Refused kind)) reading now = reading ≡ Err kind
+StepsOrWants (Err Oom) reading now = Unit {0}

@@ -1,7 +1,7 @@
 // What was read of a sheet so far, and the commands that add to it.
 ghost use Rattle.std.specs.Prelude.{◌≡◌, ◌<◌, ◌≤◌, MatchResult, IfSome};
 ghost use Rattle.cue_sheet.specs.Reading.{begun, ended, file_reading, follows, track_reading, index_reading, is_complete, pregap_reading, sheet_of};
-ghost use Rattle.cue_sheet.specs.Progress.{state_of, IsSound, Steps};
+ghost use Rattle.cue_sheet.specs.Progress.{state_of, IsSound, Steps, StepsOrWants};
 
 use crate::command::same_word;
 use crate::fail::{CueKind, LineFail};
@@ -60,7 +60,7 @@ const MOST_FILES: usize = 100;
 // A FILE line.
 #[tactic(auto, unfolding(crate::specs::Reading::file_reading, crate::specs::Reading::check, crate::specs::Reading::part))]
 pub fn read_file(alloc: Global, progress: &mut Progress, text: &[u8]) -> Result<(), LineFail>
-    ensures { Steps result (file_reading (state_of progress.old) text.now) (state_of progress.new) }
+    ensures { StepsOrWants result (file_reading (state_of progress.old) text.now) (state_of progress.new) }
 {
     let (name, rest) = match name_of(text) {
         Some(found) => found,
@@ -89,26 +89,26 @@ pub fn read_file(alloc: Global, progress: &mut Progress, text: &[u8]) -> Result<
 
 // A TRACK line.
 #[tactic(auto, unfolding(crate::specs::Reading::track_reading, crate::specs::Reading::check, crate::specs::Reading::part))]
-pub fn read_track(progress: &mut Progress, text: &[u8]) -> Result<(), LineFail>
+pub fn read_track(progress: &mut Progress, text: &[u8]) -> Result<(), CueKind>
     requires { IsSound (state_of progress.old) }
     ensures { Steps result (track_reading (state_of progress.old) text.now) (state_of progress.new) }
 {
     if progress.files.is_empty() {
-        return Err(refused(CueKind::NoFile));
+        return Err(CueKind::NoFile);
     }
     let (word, rest) = split_word(text);
     let number = match label_of(word) {
         Some(number) => number,
-        None => return Err(refused(CueKind::BadNumber)),
+        None => return Err(CueKind::BadNumber),
     };
     if !same_word(trim_end(rest), b"AUDIO") {
-        return Err(refused(CueKind::DataTrack));
+        return Err(CueKind::DataTrack);
     }
     if number != progress.number + 1 {
-        return Err(refused(CueKind::TrackOrder));
+        return Err(CueKind::TrackOrder);
     }
     if !is_complete(progress) {
-        return Err(refused(CueKind::NoIndex01));
+        return Err(CueKind::NoIndex01);
     }
     progress.number = number;
     progress.index = None;
@@ -130,7 +130,7 @@ fn follows(before: Option<u32>, number: u32) -> bool
 #[tactic(auto, unfolding(crate::specs::Reading::index_reading, crate::specs::Reading::check, crate::specs::Reading::part))]
 pub fn read_index(progress: &mut Progress, text: &[u8]) -> Result<(), LineFail>
     requires { IsSound (state_of progress.old) }
-    ensures { Steps result (index_reading (state_of progress.old) text.now) (state_of progress.new) }
+    ensures { StepsOrWants result (index_reading (state_of progress.old) text.now) (state_of progress.new) }
 {
     if progress.number == 0 {
         return Err(refused(CueKind::NoTrack));
@@ -163,18 +163,18 @@ pub fn read_index(progress: &mut Progress, text: &[u8]) -> Result<(), LineFail>
 
 // A PREGAP line.
 #[tactic(auto, unfolding(crate::specs::Reading::pregap_reading, crate::specs::Reading::check, crate::specs::Reading::part))]
-pub fn read_pregap(progress: &mut Progress, text: &[u8]) -> Result<(), LineFail>
+pub fn read_pregap(progress: &mut Progress, text: &[u8]) -> Result<(), CueKind>
     ensures { Steps result (pregap_reading (state_of progress.old) text.now) (state_of progress.new) }
 {
     if progress.number == 0 {
-        return Err(refused(CueKind::NoTrack));
+        return Err(CueKind::NoTrack);
     }
     if progress.number != 1 || !progress.tracks.is_empty() || progress.pregap.is_some() {
-        return Err(refused(CueKind::LatePregap));
+        return Err(CueKind::LatePregap);
     }
     let time = match time_of(trim_end(text)) {
         Some(time) => time,
-        None => return Err(refused(CueKind::BadTime)),
+        None => return Err(CueKind::BadTime),
     };
     progress.pregap = Some(time);
     Ok(())

@@ -1,7 +1,7 @@
 // How a sheet is read: line by line.
 ghost use Rattle.std.specs.Prelude.{◌≤◌, length};
 ghost use Rattle.cue_sheet.specs.Reading.{line_reading, sheet_reading, Reads};
-ghost use Rattle.cue_sheet.specs.Progress.{state_of, IsSound, Steps};
+ghost use Rattle.cue_sheet.specs.Progress.{state_of, IsSound, StepsOrWants};
 
 use crate::command::{Command, command_of};
 use crate::fail::{CueFail, CueKind, LineFail};
@@ -16,7 +16,7 @@ use std::alloc::Global;
 #[tactic(auto, unfolding(crate::specs::Reading::line_reading, crate::specs::Reading::words_reading, crate::specs::Reading::check, crate::specs::Reading::part))]
 fn read_line(alloc: Global, progress: &mut Progress, line: &[u8]) -> Result<(), LineFail>
     requires { IsSound (state_of progress.old) }
-    ensures { Steps result (line_reading (state_of progress.old) line.now) (state_of progress.new) }
+    ensures { StepsOrWants result (line_reading (state_of progress.old) line.now) (state_of progress.new) }
 {
     let text = trim_start(without_return(line));
     if text.is_empty() {
@@ -26,9 +26,15 @@ fn read_line(alloc: Global, progress: &mut Progress, line: &[u8]) -> Result<(), 
     match command_of(word) {
         Some(Command::Unread) => Ok(()),
         Some(Command::File) => read_file(alloc, progress, rest),
-        Some(Command::Track) => read_track(progress, rest),
+        Some(Command::Track) => match read_track(progress, rest) {
+            Ok(()) => Ok(()),
+            Err(kind) => Err(LineFail::Refused { kind }),
+        },
         Some(Command::Index) => read_index(progress, rest),
-        Some(Command::Pregap) => read_pregap(progress, rest),
+        Some(Command::Pregap) => match read_pregap(progress, rest) {
+            Ok(()) => Ok(()),
+            Err(kind) => Err(LineFail::Refused { kind }),
+        },
         Some(Command::Postgap) => Err(LineFail::Refused {
             kind: CueKind::Postgap,
         }),

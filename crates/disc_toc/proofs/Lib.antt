@@ -1,2 +1,3 @@
 pub mod DifferenceLaws
+pub mod JoinedLaws
 pub mod LayoutLaws

@@ -2,10 +2,12 @@
 #![tactic(auto)]
 
 mod difference;
+mod joined;
 mod layout;
 mod reading;
 
 pub use difference::{Differs, LayoutPart, first_difference};
+pub use joined::layout_of;
 pub use layout::{Layout, Starts99};
 pub use reading::{LayoutFail, LayoutKind, one_track};
 

@@ -1,5 +1,6 @@
 // The layout of one file with one track.
-ghost use Rattle.std.specs.Prelude.{◌≡◌, ◌≤◌, ◌∷◌, [], IfOk};
+ghost use Rattle.std.specs.Prelude.{◌≡◌, ◌≤◌, ◌∷◌, [], IfOk, List, ℕ};
+ghost use Rattle.disc_toc.specs.Joined.{layout_reading, sole_sheet};
 ghost use Rattle.disc_toc.specs.OneTrack.{Answers, one_track_reading, sectors_reading};
 
 use crate::layout::{Layout, Starts99};
@@ -28,10 +29,10 @@ pub enum LayoutFail {
 }
 
 /// A sector's words: 588 stereo samples of two words.
-const SECTOR_WORDS: u64 = 1176;
+pub const SECTOR_WORDS: u64 = 1176;
 
 /// The most sectors of a pregap and the audio after it: 99 minutes.
-const MOST_SECTORS: u64 = 445_500;
+pub const MOST_SECTORS: u64 = 445_500;
 
 // The sectors that these words are.
 fn whole_sectors(words: u64) -> Result<u32, LayoutKind>
@@ -58,10 +59,13 @@ fn sole_start(alloc: Global) -> Result<Starts99, AllocError>
     Ok(Starts99::of(list))
 }
 
-/// The layout of one file of this many words and one track that begins with it.
+/// The layout of one file of this many words and one track that begins with it: that of a sheet which
+/// has these alone.
+#[tactic(auto, using(crate::proofs::JoinedLaws::sole_reading))]
 pub fn one_track(alloc: Global, words: u64) -> Result<Layout, LayoutFail>
     requires { words ≤ 2147483647 }
-    ensures { Answers result (one_track_reading words) }
+    ensures value { Answers result (one_track_reading words) }
+    ensures joined { (name : List ℕ) → Answers result (layout_reading (sole_sheet name) (words ∷ [])) }
 {
     let sectors = match whole_sectors(words) {
         Ok(sectors) => sectors,

@@ -4,6 +4,8 @@
 
 #[cfg(test)]
 mod ids;
+#[cfg(test)]
+mod layouts;
 mod made;
 #[cfg(test)]
 mod pieces;
