@@ -1,0 +1,49 @@
+// What a run reports.
+ghost use Rattle.std.specs.Prelude.{◌≡◌, IfOk};
+ghost use Rattle.rip_report.specs.Report.{IsReported, report_text};
+
+use crate::refusals::refusal_lines;
+use crate::status::Status;
+use crate::texts::{
+    mendable_lines, offsets_lines, printed, registered_line, verified_lines, written_lines,
+};
+use column_map::{Candidate, CandidateList};
+use rip_outside::{Name, Oom, Text};
+use std::alloc::Global;
+
+/// What a run has to tell, which its text says in lines.
+#[derive(Debug, Drop)]
+pub enum Report {
+    /// A record stands under this name, of a disc with so many sectors of audio, and with so many parity words for each
+    /// column.
+    Registered { name: Name, sectors: u32, npar: u32 },
+    /// The rip is near the record here, and has no wrong word.
+    Verified { at: Candidate },
+    /// The rip is near the record here, and has wrong words.
+    Mendable { at: Candidate },
+    /// The offsets at which the rip is near the record.
+    Offsets { list: CandidateList },
+    /// The mended rip stands under this name.
+    Written { at: Candidate, name: Name },
+    /// The run was refused, or a call failed.
+    Refusal { status: Status },
+}
+
+/// The text of a report, or Oom for want of memory: lines that end with line feeds.
+pub fn text_of(alloc: Global, report: &Report) -> Result<Text, Oom>
+    requires { IsReported report.now }
+    ensures { IfOk result (λ text. text ≡ report_text report.now) }
+{
+    printed(match report {
+        Report::Registered {
+            name,
+            sectors,
+            npar,
+        } => registered_line(alloc, name.as_str(), *sectors, *npar),
+        Report::Verified { at } => verified_lines(alloc, *at),
+        Report::Mendable { at } => mendable_lines(alloc, *at),
+        Report::Offsets { list } => offsets_lines(alloc, list.as_slice()),
+        Report::Written { at, name } => written_lines(alloc, *at, name.as_str()),
+        Report::Refusal { status } => refusal_lines(alloc, status),
+    })
+}
