@@ -1,3 +1,5 @@
 pub mod Kinds
 pub mod Report
+pub mod Sums
 pub mod Texts
+pub mod Trial

@@ -38,6 +38,10 @@ candidate_line offset errors columns = line (codes "offset " ++ offset_text offs
 abbrev pub other_layout_line : LayoutPart → ℕ → ℕ → List ℕ
 other_layout_line part rip kept = line (codes "other layout " ++ layout_part_text part ++ codes " rip " ++ decimal rip ++ codes " kept " ++ decimal kept)
 
+-- two offsets at which a rip is near a record
+abbrev pub several_line : ℤ → ℤ → List ℕ
+several_line first second = line (codes "several " ++ offset_text first ++ codes " " ++ offset_text second)
+
 -- The lines of a refusal. Success has a text of its command's own, and the last two statuses print nothing.
 abbrev pub refusal_line : Status → List ℕ
 refusal_line (Usage word) = line (codes "usage word " ++ decimal word)
@@ -50,7 +54,7 @@ refusal_line (RecordRefused kind) = line (codes "record " ++ record_kind_text ki
 refusal_line (OutExists name) = line (codes "exists " ++ name)
 refusal_line (OtherLayout differs) = other_layout_line differs.part differs.rip differs.kept
 refusal_line NoCandidate = line (codes "no candidate")
-refusal_line (Several first second) = line (codes "several " ++ offset_text first ++ codes " " ++ offset_text second)
+refusal_line (Several first second) = several_line first second
 refusal_line (NotNear column) = line (codes "not near column " ++ decimal column)
 refusal_line (Mendable offset errors columns) = candidate_line offset errors columns ++ line (codes "mendable")
 refusal_line (ReadFault call) = read_fault_line

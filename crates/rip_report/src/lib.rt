@@ -5,8 +5,10 @@ mod kinds;
 mod refusals;
 mod report;
 mod status;
+mod sums;
 mod texts;
+mod trial;
 
 pub use refusals::refusal_text;
-pub use report::{Report, text_of};
+pub use report::{Report, TrialResult, text_of};
 pub use status::Status;

@@ -5,7 +5,7 @@ ghost use Rattle.rip_report.specs.Texts.{cue_line, other_layout_line, refusal_li
 
 use crate::kinds::{cue_kind_name, wav_kind_name};
 use crate::status::Status;
-use crate::texts::{mendable_lines, printed, sign_of, size_of};
+use crate::texts::{mendable_lines, printed, several_line};
 use column_map::Candidate;
 use disc_toc::{Differs, LayoutKind, LayoutPart};
 use parity_store::RecordKind;
@@ -71,16 +71,6 @@ fn other_layout_line(alloc: Global, differs: Differs) -> Result<String, AllocErr
             format!(in alloc; "other layout start {track} rip {rip} kept {kept}\n")
         }
     }
-}
-
-fn several_line(alloc: Global, first: i32, second: i32) -> Result<String, AllocError>
-    ensures { IfOk result (λ made. string_bytes made ≡ refusal_line (Status.Several first second)) }
-{
-    let sign = sign_of(first);
-    let size = size_of(first);
-    let other_sign = sign_of(second);
-    let other_size = size_of(second);
-    format!(in alloc; "several {sign}{size} {other_sign}{other_size}\n")
 }
 
 pub(crate) fn refusal_lines(alloc: Global, status: &Status) -> Result<String, AllocError>

@@ -1,8 +1,8 @@
-// The lines of a run that is done.
+// The lines that more than one report has, and those of a run that is done.
 ghost use Rattle.std.specs.Prelude.{◌≡◌, ◌++◌, IfOk, IsOkAnd, unsigned_abs};
 ghost use Rattle.std.specs.Fmt.{decimal};
 ghost use Rattle.std.specs.String.{string_bytes};
-ghost use Rattle.rip_report.specs.Texts.{candidate_line, mendable_text, offset_text, offsets_text, registered_line, verified_text, written_text};
+ghost use Rattle.rip_report.specs.Texts.{candidate_line, mendable_text, offset_text, offsets_text, registered_line, several_line, verified_text, written_text};
 
 use column_map::Candidate;
 use rip_outside::{Oom, Text};
@@ -43,6 +43,16 @@ pub(crate) fn candidate_line(
     let sign = sign_of(offset);
     let size = size_of(offset);
     format!(in alloc; "offset {sign}{size} errors {errors} columns {columns}\n")
+}
+
+pub(crate) fn several_line(alloc: Global, first: i32, second: i32) -> Result<String, AllocError>
+    ensures { IfOk result (λ made. string_bytes made ≡ several_line first second) }
+{
+    let sign = sign_of(first);
+    let size = size_of(first);
+    let other_sign = sign_of(second);
+    let other_size = size_of(second);
+    format!(in alloc; "several {sign}{size} {other_sign}{other_size}\n")
 }
 
 pub(crate) fn registered_line(

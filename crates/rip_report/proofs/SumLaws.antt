@@ -1,0 +1,44 @@
+-- Numerals with zeros before them, texts of several parts, and the lines of tracks.
+use Rattle.std.proofs.Common.{◌≡◌, ℕ, suc, ◌+◌, ◌-◌, ◌^◌, ◌<◌, false, List, [], ◌∷◌, ◌++◌, length, take, get_or, ap, sym, ◌∙◌, arith, append_assoc, append-nil, Option, Some, IfSome}
+use Rattle.std.specs.Fmt.{◌++?◌, char_count, digits, format_spec, padded_integral}
+use Rattle.std.specs.Option.{option_map}
+use Rattle.std.proofs.Math.Nat.{sub-zero}
+use Rattle.std.proofs.lemmas.List.{take_more, length-take}
+use Rattle.accurip_sums.specs.declared.pair.Sums.{Sums}
+use Rattle.rip_report.specs.Sums.{eight_hex, track_line, track_lines, with_zeros}
+
+-- what `{:02}` and its kin write
+pub zeros_before : (count : ℕ) (numeral : List ℕ) → padded_integral (format_spec 32 0 4 count (2 ^ 64 - 1)) false [] numeral ≡ with_zeros count numeral
+unfolding padded_integral char_count with_zeros
+zeros_before count numeral = simp (sub-zero, append-nil)
+
+-- what `{:08x}` writes
+pub hex_shown : (shown : Option (List ℕ)) (n : ℕ) → shown ≡ Some (digits 16 false n)
+    → option_map (padded_integral (format_spec 32 0 4 8 (2 ^ 64 - 1)) false []) shown ≡ Some (eight_hex n)
+hex_shown shown n is = ap (option_map (padded_integral (format_spec 32 0 4 8 (2 ^ 64 - 1)) false [])) is ∙ ap Some (zeros_before 8 (digits 16 false n))
+
+-- a text of parts that are known
+pub two_shown : (made a b c d e w x y : List ℕ) (p q : Option (List ℕ)) → b ≡ w → p ≡ Some x → q ≡ Some y
+    → IfSome (Some a ++? Some b ++? Some c ++? p ++? Some d ++? q ++? Some e) (λ text. made ≡ text)
+    → made ≡ a ++ w ++ c ++ x ++ d ++ y ++ e
+two_shown made a b c d e w x y p q number one two is = (rw (number, one, two) at is) ∙ simp append_assoc
+
+pub three_shown : (made a b c d e f w x y z : List ℕ) (p q r : Option (List ℕ)) → b ≡ w → p ≡ Some x → q ≡ Some y → r ≡ Some z
+    → IfSome (Some a ++? Some b ++? Some c ++? p ++? Some d ++? q ++? Some e ++? r ++? Some f) (λ text. made ≡ text)
+    → made ≡ a ++ w ++ c ++ x ++ d ++ y ++ e ++ z ++ f
+three_shown made a b c d e f w x y z p q r number one two three is = (rw (number, one, two, three) at is) ∙ simp append_assoc
+
+-- one more track
+track_lines-append : (n : ℕ) (list : List Sums) (sums : Sums) → track_lines n (list ++ sums ∷ []) ≡ track_lines n list ++ track_line (n + length list) sums
+unfolding track_lines
+track_lines-append n [] sums = let same : n ≡ n + 0 = omega arith in append-nil (track_line n sums) ∙ ap (λ k. track_line k sums) same
+track_lines-append n (first ∷ later) sums =
+    let same : n + 1 + length later ≡ n + suc (length later) = omega arith in
+    ap (λ x. track_line n first ++ x) (track_lines-append (n + 1) later sums ∙ ap (λ k. track_lines (n + 1) later ++ track_line k sums) same)
+    ∙ sym (append_assoc (track_line n first) (track_lines (n + 1) later) (track_line (n + suc (length later)) sums))
+
+pub track_lines_more : (list : List Sums) (i : ℕ) (sums : Sums) → i < length list → track_lines 1 (take (i + 1) list) ≡ track_lines 1 (take i list) ++ track_line (i + 1) (get_or list i sums)
+track_lines_more list i sums inside =
+    let number : 1 + length (take i list) ≡ i + 1 = omega (arith, length-take i list) in
+    ap (track_lines 1) (take_more list i sums inside) ∙ track_lines-append 1 (take i list) (get_or list i sums)
+    ∙ ap (λ k. track_lines 1 (take i list) ++ track_line k (get_or list i sums)) number
