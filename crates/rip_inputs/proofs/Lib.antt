@@ -1,5 +1,8 @@
-pub mod LayoutLaws
 pub mod NameLaws
-pub mod RipLaws
 pub mod StepLaws
 pub mod WavLaws
+pub mod LayoutLaws
+pub mod RipLaws
+pub mod PartLaws
+pub mod LengthLaws
+pub mod OneFileLaws
