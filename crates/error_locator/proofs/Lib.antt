@@ -4,3 +4,4 @@ pub mod Unique
 pub mod Located
 pub mod Rising
 pub mod RootWalk
+pub mod Split

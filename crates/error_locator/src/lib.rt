@@ -1,6 +1,8 @@
 //! The shortest register that generates syndromes, and the places that it tells.
 #![tactic(auto)]
 
+mod splitting;
+
 ghost use Rattle.std.specs.Prelude.{◌≡◌, ◌≢◌, ℕ, ◌+◌, ◌<◌, ◌≤◌, ◌↔◌, ◌⊎◌, IfSome, IsNone, slice_index};
 ghost use Rattle.gf16_field.specs.Xor.{◌⊕◌, xor_below};
 ghost use Rattle.gf16_field.specs.Gf16.{◌⊗◌, alpha_power};
@@ -13,6 +15,7 @@ ghost use Rattle.error_locator.specs.Walk.{AreTerms, inverse_at};
 
 use gf16_field::{Gf, Tables, add, double, pow_alpha};
 use gf16_poly::{Register, are_words, discrepancy};
+use splitting::may_split;
 
 /// Coefficient `i` of an older register, shifted and times a factor.
 fn term<const P: usize>(field: &Tables, old: &[u16; P], shift: usize, factor: Gf, i: usize) -> Gf
@@ -224,6 +227,9 @@ pub fn roots<const P: usize>(field: &Tables, r: &Register<P>, c: u32) -> Option<
         return None;
     }
     are_words(&r.coef);
+    if r.len > 1 && !may_split(field, r) {
+        return None;
+    }
     let mut k = [0; P];
     let mut terms = terms_at(field, &r.coef, r.len, pow_alpha(65_536 - c));
     let mut count = 0;

@@ -1,6 +1,15 @@
 use Rattle.std.proofs.Common.{◌≡◌, ◌<◌, true, false, inl, inr, refl, get_or, set, length-set, ◌∙◌, arith}
 use Rattle.error_locator.proofs.RootWalk.{not_fewer, set_kept, set_last, walk_all, walk_found, walk_none, walk_on, walk_root}
+use Rattle.error_locator.proofs.Split.{fewer_roots}
 use Rattle.error_locator.proofs.roots.Goals as goal
+
+pub returns-then-not-may_split-clause-none : goal.returns-then-not-may_split-clause-none
+returns-then-not-may_split-clause-none g c = (
+  λ e. inr
+      (fewer_roots c.args.r.now.len (λ i. get_or c.args.r.now.coef i 0) c.args.c c.are_words.ensures (omega arith)
+      (λ x split. let yes : c.may_split.result ≡ true = c.may_split.ensures x split in let no : c.may_split.result ≡ false = c.if-not-may_split.true in cc)),
+  λ e. refl,
+)
 
 pub returns-then-place-c-clause-none : goal.returns-then-place-c-clause-none
 returns-then-place-c-clause-none g c = (
