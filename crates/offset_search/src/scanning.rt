@@ -117,7 +117,8 @@ impl<const P: usize, S: Starts<P> + Drop> Search<P, S> {
         })
     }
 
-    // The errors of the rip in column `j` at the offset `d`, or None where no words fit.
+    // The errors of the rip in column `j` at the offset `d`, or None where no words fit. There are none where its row is
+    // the stored one, which needs no decoding.
     fn decode(&self, d: i32, j: u32) -> Option<Errors<P>>
         requires size { P ≤ 32 }
         requires offset { IsOffset d }
@@ -134,8 +135,16 @@ impl<const P: usize, S: Starts<P> + Drop> Search<P, S> {
     {
         let shape = self.starts.shape();
         let row = self.starts.at_start(&self.field, shape.start_of(d, j));
-        let sum = row_sum(row, self.wanted.row(j));
-        decode_column(&self.field, sum, shape.per_column())
+        let wanted = self.wanted.row(j);
+        if row == wanted {
+            let zeros = [0; P];
+            return Some(Errors {
+                count: 0,
+                k: zeros,
+                flip: zeros,
+            });
+        }
+        decode_column(&self.field, row_sum(row, wanted), shape.per_column())
     }
 
     /// Ok exactly where the rip is near the stored parity at the offset `d`, in samples, with the counts of its words
