@@ -1,25 +1,26 @@
 -- The clauses of a run, from what its command came to.
-use Rattle.std.specs.Prelude.{◌==◌}
+use Rattle.std.specs.Prelude.{◌*◌, ◌==◌}
 use Rattle.column_map.specs.declared.candidate.Candidate.{Candidate}
 use Rattle.std.proofs.Common.{◌≡◌, ℕ, Bool, true, false, cond, List, [], ◌∷◌, Option, None, Some, IfSome, IsSome, Result, Ok, Err, refl, sym, ◌∙◌, ap, inl, inr}
 use Rattle.rip_outside.specs.Files.{Files}
 use Rattle.rip_outside.specs.Seen.{Seen}
 use Rattle.rip_outside.proofs.FilesLaws.{if_told}
 use Rattle.rip_outside.specs.declared.fault.ShelfCall.{ShelfCall}
-use Rattle.rip_engine.specs.Steps.{compared, StopsWithCause}
-use Rattle.rip_engine.specs.Outcome.{Outcome, refused, done, judged, listed, IsOutcomeOf, written_by, Leaves, Then, SameButPart}
+use Rattle.rip_inputs.specs.Opening.{Opened, lengths_of}
+use Rattle.rip_engine.specs.Steps.{compared, measured, opened, StopsWithCause, Takes}
+use Rattle.rip_engine.specs.Outcome.{Outcome, refused, done, judged, listed, IsOutcomeOf, read_by, record_under, written_by, Leaves, Then, SameButPart}
 use Rattle.rip_engine.proofs.OneOutcome.{one_outcome}
-use Rattle.rip_engine.specs.Texts.{refusal_line, read_fault_line, write_fault_line, verified_text}
-use Rattle.rip_engine.specs.Run.{FaultsOfCommand, Concluded, OutcomeDecides, ReadFaultHasCause, WriteFaultHasCause, SinkFaultHasCause, WantOfMemoryKeeps, NothingWritten, Completes, ReadFailed, WriteFailed}
+use Rattle.rip_report.specs.Texts.{refusal_line, read_fault_line, write_fault_line, verified_text}
+use Rattle.rip_engine.specs.Run.{FaultsOfCommand, Concluded, OutcomeDecides, ReadFaultHasCause, WriteFaultHasCause, SinkFaultHasCause, WantOfMemoryKeeps, NothingWritten, BytesTaken, Completes, ReadFailed, WriteFailed}
 use Rattle.rip_words.specs.declared.Command.{Command}
-use Rattle.rip_words.specs.declared.Command.TheVariants.{Register, Verify, Offsets, Repair}
-use Rattle.rip_engine.specs.declared.status.Status.{Status}
-use Rattle.rip_engine.specs.declared.status.Status.TheVariants.{Mendable, ReadFault, WriteFault, SinkFault, WantOfMemory}
+use Rattle.rip_words.specs.declared.Command.TheVariants.{Register, Verify, Offsets, Repair, Sums}
+use Rattle.rip_report.specs.declared.status.Status.{Status}
+use Rattle.rip_report.specs.declared.status.Status.TheVariants.{Mendable, ReadFault, WriteFault, SinkFault, WantOfMemory}
 use Rattle.rip_engine.specs.declared.steps.Stop.{Stop}
 use Rattle.rip_engine.specs.declared.steps.Stop.TheVariants.{Refused, ReadFault as ReadStop, WriteFault as WriteStop, Oom as WantStop}
 
 pub record Came (read : Result Command ℕ) (before after : Seen) (performed : Result (List ℕ) Stop) (status : Status) : Type 0 where
-  pub leaves : IfSome before.held (λ files. Leaves (IsOutcomeOf read files) (written_by read) files performed after.held)
+  pub leaves : IfSome before.held (λ files. Leaves (IsOutcomeOf read files) (written_by read files) files performed after.held)
   pub cause : StopsWithCause before.faults after.faults performed
   pub reads : FaultsOfCommand read performed
   pub concluded : Concluded performed before.told after.told before.sink_faults after.sink_faults status
@@ -45,13 +46,19 @@ listed_files : (found : List Candidate) (files : Files) → (listed found files)
 listed_files [] files = refl
 listed_files (at ∷ found) files = refl
 
+-- a rip that isn't opened gives no name to a record
+no_record : (rec : List ℕ) (step : Result Opened Status) (files : Files) (next : Opened → Outcome → Type 0) (a : Outcome) → (IsSome (record_under rec step) → ⊥) → Then step files next a → a.files ≡ files
+no_record rec (Ok rip) files next a none is = absurd (none refl)
+no_record rec (Err status) files next a none is = ap (λ (o : Outcome). o.files) is
+
 -- a command that has no output leaves the files
-no_output : (read : Result Command ℕ) (files : Files) (a : Outcome) → (IsSome (written_by read) → ⊥) → IsOutcomeOf read files a → a.files ≡ files
+no_output : (read : Result Command ℕ) (files : Files) (a : Outcome) → (IsSome (written_by read files) → ⊥) → IsOutcomeOf read files a → a.files ≡ files
 no_output (Err word) files a none is = ap (λ (o : Outcome). o.files) is
-no_output (Ok (Register input rec npar)) files a none is = absurd (none refl)
-no_output (Ok (Verify input rec offset)) files a none is = then_kept (compared input rec files) files _ a (λ known is. then_kept is.0 files _ a (λ at is. ap (λ (o : Outcome). o.files) is ∙ judged_files at files) is.2) is
-no_output (Ok (Offsets input rec)) files a none is = then_kept (compared input rec files) files _ a (λ known is. ap (λ (o : Outcome). o.files) is.2 ∙ listed_files is.0 files) is
+no_output (Ok (Register input rec npar)) files a none is = no_record rec (measured input files) files _ a none is
+no_output (Ok (Verify input rec offset)) files a none is = then_kept (compared input rec files) files _ a (λ both is. then_kept is.0 files _ a (λ at is. ap (λ (o : Outcome). o.files) is ∙ judged_files at files) is.2) is
+no_output (Ok (Offsets input rec)) files a none is = then_kept (compared input rec files) files _ a (λ both is. ap (λ (o : Outcome). o.files) is.2 ∙ listed_files is.0 files) is
 no_output (Ok (Repair input rec to offset)) files a none is = absurd (none refl)
+no_output (Ok (Sums input)) files a none is = then_kept (opened input files) files _ a (λ rip is. ap (λ (o : Outcome). o.files) is) is
 
 module _ (read : Result Command ℕ) (before after : Seen) (status : Status) where
   pub decides : (p : Result (List ℕ) Stop) → Came read before after p status → OutcomeDecides read before after status
@@ -86,7 +93,7 @@ module _ (read : Result Command ℕ) (before after : Seen) (status : Status) whe
     reads = came.cause.0;
     rose = came.cause.1;
     asked = came.reads;
-    leaves = if_told before.held _ (λ files is. let left = rw is at came.leaves in elim left [ inl kept ↦ (files, kept, same_but_part (written_by read) files) | inr put ↦ put.4 ]);
+    leaves = if_told before.held _ (λ files is. let left = rw is at came.leaves in elim left [ inl kept ↦ (files, kept, same_but_part (written_by read files) files) | inr put ↦ put.4 ]);
   }
 
   -- and one of writing
@@ -160,7 +167,7 @@ module _ (read : Result Command ℕ) (before after : Seen) (status : Status) whe
       | inl r ↦ let why_is : why ≡ WantOfMemory = cc in let no : ⊥ = rw why_is at came.cause in absurd no
       | inr r ↦ let no : ⊥ = cc in absurd no
     ]
-    | inr want ↦ (want.1, if_told before.held _ (λ files told. let left = rw told at came.leaves in (files, left.0, same_but_part (written_by read) files)))
+    | inr want ↦ (want.1, if_told before.held _ (λ files told. let left = rw told at came.leaves in (files, left.0, same_but_part (written_by read files) files)))
   ]
   memory_keeps (Err (ReadStop call)) came is = elim came.concluded [ inl r ↦ let no : ⊥ = cc in absurd no | inr r ↦ let no : ⊥ = cc in absurd no ]
   memory_keeps (Err (WriteStop call)) came is = elim came.concluded [ inl r ↦ let no : ⊥ = cc in absurd no | inr r ↦ let no : ⊥ = cc in absurd no ]
@@ -168,14 +175,14 @@ module _ (read : Result Command ℕ) (before after : Seen) (status : Status) whe
     came.concluded.1,
     if_told before.held _ (λ files told.
         let left = rw told at came.leaves in
-        elim left [ inl kept ↦ (files, kept, same_but_part (written_by read) files) | inr put ↦ put.4 ]),
+        elim left [ inl kept ↦ (files, kept, same_but_part (written_by read files) files) | inr put ↦ put.4 ]),
   )
 
   pub nothing_written : (p : Result (List ℕ) Stop) → Came read before after p status → NothingWritten read before after status
   nothing_written (Ok text) came = if_told before.held _ (λ files told outcome is unwritten.
       let left = rw told at came.leaves in
       let same = one_outcome read files outcome (done text left.0) is left.2 in
-      let none : IsSome (written_by read) → ⊥ = λ some. unwritten (ap (λ (o : Outcome). o.status) same, some) in
+      let none : IsSome (written_by read files) → ⊥ = λ some. unwritten (ap (λ (o : Outcome). o.status) same, some) in
       left.1 ∙ ap Some (no_output read files (done text left.0) none left.2))
   nothing_written (Err (Refused why)) came = if_told before.held _ (λ files told outcome is unwritten. let left = rw told at came.leaves in left.0)
   nothing_written (Err (ReadStop call)) came = if_told before.held _ (λ files told outcome is unwritten.
@@ -210,3 +217,11 @@ module _ (read : Result Command ℕ) (before after : Seen) (status : Status) whe
   completes (Err (ReadStop call)) came no_shelf no_sink = absurd (no_shelf call came.cause.1)
   completes (Err (WriteStop call)) came no_shelf no_sink = absurd (no_shelf call came.cause.1)
   completes (Err WantStop) came no_shelf no_sink = inl came.concluded.0
+
+  pub takes : (p : Result (List ℕ) Stop) → StopsWithCause before.faults after.faults p
+      → IfSome before.held (λ files. Takes (3 * lengths_of (read_by read files) files) p before.taken after.taken) → BytesTaken read before after
+  takes (Ok text) cause took none = took
+  takes (Err (Refused why)) cause took none = took
+  takes (Err (ReadStop call)) cause took none = absurd (none call cause.1)
+  takes (Err (WriteStop call)) cause took none = took
+  takes (Err WantStop) cause took none = took

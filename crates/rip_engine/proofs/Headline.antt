@@ -18,11 +18,11 @@ use Rattle.rip_words.specs.declared.Command.{Command}
 use Rattle.rip_words.specs.declared.Command.TheVariants.{Offsets, Repair}
 use Rattle.rip_engine.specs.Steps.{Known, compared, free}
 use Rattle.rip_engine.specs.Picking.{AreKnownCandidates, FitsKnown, IsKnownCandidate, Picks}
-use Rattle.rip_engine.specs.Texts.{offsets_text, written_text}
+use Rattle.rip_report.specs.Texts.{offsets_text, written_text}
 use Rattle.rip_engine.specs.Outcome.{Outcome, IsListedOutcome, IsOutcomeOf, IsWrittenOutcome, Then, ThenOf, done, listed}
 use Rattle.rip_engine.specs.Run.{Completes, DamagedDiscIsFound, IsAnswered, IsDamagedRip, IsKnownNear, IsOffsetToMend, OutcomeDecides, RepairIsExact, Repaired, Wrote}
-use Rattle.rip_engine.specs.declared.status.Status.{Status}
-use Rattle.rip_engine.specs.declared.status.Status.TheVariants.{Done}
+use Rattle.rip_report.specs.declared.status.Status.{Status}
+use Rattle.rip_report.specs.declared.status.Status.TheVariants.{Done}
 use Rattle.rip_engine.proofs.Leaving.{part_differs}
 use Rattle.rip_engine.proofs.OneOutcome.{compared_range, few_words, given_is, sole_is}
 use Rattle.rip_engine.proofs.PickLaws.{picked_candidate, picked_near, picked_offset}
@@ -103,9 +103,9 @@ no_done : (offset : Option ℤ) (known : Known) → Picks offset known (Err Done
 no_done None known picks = picks
 no_done (Some d) known picks = picks
 
-module _ (input rec to : List ℕ) (offset : Option ℤ) (known : Known) (files : Files) (found : compared input rec files ≡ Ok known) where
-  picked_outcome : (outcome : Outcome) → free to (input ∷ (rec ∷ [])) files ≡ Ok tt → IsOutcomeOf (Ok (Repair input rec to offset)) files outcome → ThenOf (Picks offset known) files (λ at. IsWrittenOutcome to known at files) outcome
-  picked_outcome outcome freed is = let after : Then (free to (input ∷ (rec ∷ [])) files) files (λ _. ThenOf (Picks offset known) files (λ at. IsWrittenOutcome to known at files)) outcome = rw found at is in rw freed at after
+module _ (input rec to : List ℕ) (offset : Option ℤ) (known : Known) (names : List (List ℕ)) (files : Files) (found : compared input rec files ≡ Ok (known, names)) where
+  picked_outcome : (outcome : Outcome) → free to names files ≡ Ok tt → IsOutcomeOf (Ok (Repair input rec to offset)) files outcome → ThenOf (Picks offset known) files (λ at. IsWrittenOutcome to known at files) outcome
+  picked_outcome outcome freed is = let after : Then (free to names files) files (λ _. ThenOf (Picks offset known) files (λ at. IsWrittenOutcome to known at files)) outcome = rw found at is in rw freed at after
 
   -- where it's done, a candidate was picked
   done_is_written : (outcome : Outcome) → outcome.status ≡ Done → ThenOf (Picks offset known) files (λ at. IsWrittenOutcome to known at files) outcome
@@ -126,18 +126,18 @@ module _ (input rec to : List ℕ) (offset : Option ℤ) (known : Known) (files 
       ap (λ (o : Outcome). o.status) then.2
 
 pub repairs_of : (read : Result Command ℕ) (before after : Seen) (status : Status) → OutcomeDecides read before after status → Completes read before after status → RepairIsExact read before after status
-repairs_of read before after status decides completes input rec to offset known is = if_told before.held _ (λ files told found freed. (
+repairs_of read before after status decides completes input rec to offset known names is = if_told before.held _ (λ files told found freed. (
   λ ended.
       let answered : IsAnswered status = subst IsAnswered (sym ended) tt in
       let o = rw told at (decides answered) in
       let P : Result Command ℕ → Type 0 = λ r. IsOutcomeOf r files o.0 in
       let repair : IsOutcomeOf (Ok (Repair input rec to offset)) files o.0 = subst P is o.1 in
-      let w = done_is_written input rec to offset known files found o.0 (o.2 ∙ ended) (picked_outcome input rec to offset known files found o.0 freed repair) in (
+      let w = done_is_written input rec to offset known names files found o.0 (o.2 ∙ ended) (picked_outcome input rec to offset known names files found o.0 freed repair) in (
         o.0.files,
         o.0.text,
         o.3,
         o.4,
-        (w.0.offset, to_mend offset known w.0 w.1, written_is to known files (few_words known (compared_range input rec files known found)) w.0 o.0 (picked_candidate offset known w.0 w.1) w.2),
+        (w.0.offset, to_mend offset known w.0 w.1, written_is to known files (few_words known (compared_range input rec files known names found)) w.0 o.0 (picked_candidate offset known w.0 w.1) w.2),
       ),
   λ none d mend. elim (completes none.0 none.1) [
     | inl want ↦ inr want
@@ -145,7 +145,7 @@ repairs_of read before after status decides completes input rec to offset known 
         let o = rw told at some in
         let P : Result Command ℕ → Type 0 = λ r. IsOutcomeOf r files o.0 in
         let repair : IsOutcomeOf (Ok (Repair input rec to offset)) files o.0 = subst P is o.1 in
-        inl (sym o.2 ∙ mended_is_done input rec to offset known files found o.0 d mend (picked_outcome input rec to offset known files found o.0 freed repair))
+        inl (sym o.2 ∙ mended_is_done input rec to offset known names files found o.0 d mend (picked_outcome input rec to offset known names files found o.0 freed repair))
   ],
 ))
 
@@ -163,7 +163,7 @@ listed_has [] files d has = absurd (let below = has.1 in omega arith)
 listed_has (at ∷ found) files d has = refl
 
 pub finds_damaged_of : (read : Result Command ℕ) (before after : Seen) (status : Status) → OutcomeDecides read before after status → Completes read before after status → RepairIsExact read before after status → DamagedDiscIsFound read before after status
-finds_damaged_of read before after status decides completes repairs input rec known image d damaged = if_told before.held _ (λ files told found. (
+finds_damaged_of read before after status decides completes repairs input rec known names image d damaged = if_told before.held _ (λ files told found. (
   λ is none. elim (completes none.0 none.1) [
     | inl want ↦ inl want
     | inr some ↦
@@ -184,7 +184,7 @@ finds_damaged_of read before after status decides completes repairs input rec kn
         inr (ended, (m.0, m.1, has m.0 m.1, subst W text decided.4))
   ],
   λ to offset is freed mend ended.
-      let r = (rw told at (repairs input rec to offset known is)) found freed in
+      let r = (rw told at (repairs input rec to offset known names is)) found freed in
       let w = r.0 ended in
       let same : w.4.0 ≡ d = one_to_mend offset known d w.4.0 damaged.offset mend w.4.1 in
       let R : ℤ → Type 0 = λ e. Repaired to known files w.0 w.1 e in

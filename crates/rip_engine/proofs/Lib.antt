@@ -7,3 +7,6 @@ pub mod PickLaws
 pub mod PieceLaws
 pub mod StepLaws
 pub mod StoredLaws
+pub mod TakingLaws
+pub mod OpeningLaws
+pub mod SummingLaws

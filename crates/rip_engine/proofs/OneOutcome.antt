@@ -1,81 +1,75 @@
 -- The words and the files have one outcome.
 use Rattle.std.proofs.Common.{◌≡◌, ◌∙◌, ◌≤◌, ◌⊎◌, ℕ, List, [], ◌∷◌, length, Bool, true, false, cond, Option, None, Some, Result, Ok, Err, refl, sym, ap, ap₂, subst, inl, inr, arith, ℤ}
-use Rattle.std.specs.Prelude.{◌==◌, ◌/◌, ◌%◌, nat_lt}
-use Rattle.std.specs.Result.{result_map_both}
+use Rattle.std.specs.Prelude.{nat_lt}
 use Rattle.std.proofs.lemmas.Bool.Decides.{nat_tests}
 use Rattle.rip_outside.specs.Files.{Files, after_put}
 use Rattle.column_map.specs.Columns.{IsOffset, IsSectorCount, per_column}
 use Rattle.column_map.specs.declared.candidate.Candidate.{Candidate}
 use Rattle.column_map.proofs.MendingLaws.{mended_one}
-use Rattle.disc_toc.specs.Toc.{Toc}
-use Rattle.disc_toc.specs.OneTrack.{one_track_of, one_track_reading, sectors_reading}
-use Rattle.disc_toc.specs.declared.reading.LayoutKind.{LayoutKind}
 use Rattle.disc_toc.specs.declared.reading.LayoutKind.TheVariants.{TooShort}
 use Rattle.wav_frames.specs.Wav.{wav_bytes}
 use Rattle.offset_search.specs.Near.{IsFirstUnfit, IsNear}
 use Rattle.offset_search.proofs.Counting.{unfit_far}
 use Rattle.offset_search.proofs.TableFits.{one_table}
 use Rattle.offset_search.proofs.NearLaws.{first_from_all, one_candidates, one_first_candidates, one_first_unfit, same_candidate}
+use Rattle.parity_store.specs.Naming.{record_name_of}
+use Rattle.rip_inputs.specs.Opening.{Opened, rip_reading}
+use Rattle.rip_inputs.specs.declared.rip.RipFail.{RipFail}
+use Rattle.rip_inputs.proofs.FitLaws.{opened_fits}
 use Rattle.rip_words.specs.Command.{part_of}
 use Rattle.rip_words.specs.declared.Command.{Command}
-use Rattle.rip_words.specs.declared.Command.TheVariants.{Register, Verify, Offsets, Repair}
-use Rattle.rip_engine.specs.Steps.{Known, and_then, compared, free, laid_out, long_enough, opened, recorded, same_layout}
+use Rattle.rip_words.specs.declared.Command.TheVariants.{Register, Verify, Offsets, Repair, Sums}
+use Rattle.rip_report.specs.Texts.{written_text}
+use Rattle.rip_report.specs.declared.status.Status.{Status}
+use Rattle.rip_report.specs.declared.status.Status.TheVariants.{LayoutRefused, NoCandidate, Several, NotNear}
+use Rattle.rip_engine.specs.Steps.{Known, and_then, compared, free, long_enough, measured, opened, recorded, rip_read, same_layout}
 use Rattle.rip_engine.specs.Picking.{AreFirstKnown, AreKnownCandidates, AreMended, IsKnownCandidate, Picks}
-use Rattle.rip_engine.specs.Texts.{written_text}
 use Rattle.rip_engine.specs.Outcome.{Outcome, IsOutcomeOf, Then, ThenOf, done, listed}
-use Rattle.rip_engine.specs.declared.status.Status.{Status}
-use Rattle.rip_engine.specs.declared.status.Status.TheVariants.{LayoutRefused, NoCandidate, Several, NotNear}
 use Rattle.rip_engine.proofs.PickLaws.{picked_offset}
 
 -- ---- what is known has the sectors of a disc
 
 -- what two steps found, by the second
-second_found : {A B : Type 0} (step : Result A Status) (next : A → Result B Status) (found : B) → and_then step next ≡ Ok found → (first : A) × (step ≡ Ok first) × (next first ≡ Ok found)
+pub second_found : {A B : Type 0} (step : Result A Status) (next : A → Result B Status) (found : B) → and_then step next ≡ Ok found → (first : A) × (step ≡ Ok first) × (next first ≡ Ok found)
 second_found (Ok first) next found is = (first, refl, is)
 second_found (Err status) next found is = let no : ⊥ = cc in absurd no
 
--- a choice that was made
-chosen : {A : Type 0} (b : Bool) (x y z : Result A LayoutKind) → cond b x y ≡ z → ((b ≡ true) × (x ≡ z)) ⊎ ((b ≡ false) × (y ≡ z))
-chosen true x y z is = inl (refl, is)
-chosen false x y z is = inr (refl, is)
-
-sectors_range : (words sectors : ℕ) → sectors_reading words ≡ Ok sectors → sectors ≤ 445500
-sectors_range words sectors is = elim (chosen (words % 1176 == 0) _ _ (Ok sectors) is) [
-  | inl whole ↦ elim (chosen (words / 1176 == 0) _ _ (Ok sectors) whole.1) [
-    | inl none ↦ let no : ⊥ = cc (none.1) in absurd no
-    | inr some ↦ elim (chosen (nat_lt 445500 (words / 1176)) _ _ (Ok sectors) some.1) [
-      | inl long ↦ let no : ⊥ = cc (long.1) in absurd no
-      | inr few ↦ let same : words / 1176 ≡ sectors = cc (few.1) in let le : words / 1176 ≤ 445500 = grind (arith, nat_tests, few.0) in omega arith
-    ]
-  ]
-  | inr ragged ↦ let no : ⊥ = cc (ragged.1) in absurd no
-]
-
-long_range : (r : Result Toc LayoutKind) (toc : Toc) → long_enough r ≡ Ok toc → (r ≡ Ok toc) × (30 ≤ toc.sectors)
-long_range (Ok found) toc is = let checked = by (nat_lt found.sectors 30) refl is in (ap Ok checked.0, checked.1)
+pub long_range : (rip found : Opened) → long_enough rip ≡ Ok found → (rip ≡ found) × (30 ≤ found.toc.sectors)
+long_range rip found is = by (nat_lt rip.toc.sectors 30) refl is
   where
-    by : (b : Bool) → nat_lt found.sectors 30 ≡ b → cond b (Err (LayoutRefused (TooShort found.sectors))) (Ok found) ≡ Ok toc → (found ≡ toc) × (30 ≤ toc.sectors)
+    by : (b : Bool) → nat_lt rip.toc.sectors 30 ≡ b → cond b (Err (LayoutRefused (TooShort rip.toc.sectors))) (Ok rip) ≡ Ok found → (rip ≡ found) × (30 ≤ found.toc.sectors)
     by true e is = let no : ⊥ = cc in absurd no
-    by false e is = let same : found ≡ toc = cc in let low : 30 ≤ found.sectors = grind (arith, nat_tests) in (same, subst (λ (t : Toc). 30 ≤ t.sectors) same low)
-long_range (Err kind) toc is = let no : ⊥ = cc in absurd no
+    by false e is = let same : rip ≡ found = cc in let low : 30 ≤ rip.toc.sectors = grind (arith, nat_tests) in (same, subst (λ (r : Opened). 30 ≤ r.toc.sectors) same low)
 
-track_range : (r : Result ℕ LayoutKind) (toc : Toc) → result_map_both one_track_of (λ kind. kind) r ≡ Ok toc → r ≡ Ok toc.sectors
-track_range (Ok sectors) toc is = let same : one_track_of sectors ≡ toc = cc in ap Ok (ap (λ (t : Toc). t.sectors) same)
-track_range (Err kind) toc is = let no : ⊥ = cc in absurd no
+pub read_rip : (r : Result Opened RipFail) (rip : Opened) → rip_read r ≡ Ok rip → r ≡ Ok rip
+read_rip (Ok found) rip is = let same : found ≡ rip = cc in ap Ok same
+read_rip (Err fail) rip is = let no : ⊥ = cc in absurd no
 
-laid_range : (count : ℕ) (toc : Toc) → laid_out count ≡ Ok toc → IsSectorCount toc.sectors
-laid_range count toc is =
-    let long = long_range (one_track_reading count) toc is in
-    (long.1, sectors_range count toc.sectors (track_range (sectors_reading count) toc long.0))
+-- a rip that is long enough has the sectors of a disc
+pub measured_range : (input : List ℕ) (files : Files) (rip : Opened) → measured input files ≡ Ok rip → IsSectorCount rip.toc.sectors
+measured_range input files rip is =
+    let one = second_found (opened input files) long_enough rip is in
+    let long = long_range one.0 rip one.2 in
+    let read : rip_reading input files ≡ Ok rip = read_rip (rip_reading input files) one.0 one.1 ∙ ap Ok long.0 in
+    (long.1, opened_fits input files rip read)
 
-pub compared_range : (input rec : List ℕ) (files : Files) (known : Known) → compared input rec files ≡ Ok known → IsSectorCount known.sectors
-compared_range input rec files known is =
-    let one = second_found (opened input files) _ known is in
-    let two = second_found (laid_out (length one.0)) _ known one.2 in
-    let three = second_found (recorded rec files) _ known two.2 in
-    let four = second_found (same_layout two.0 three.0.toc) _ known three.2 in
-    let sectors : two.0.sectors ≡ known.sectors = cc (four.2) in
-    subst IsSectorCount sectors (laid_range (length one.0) two.0 two.1)
+known_in : Result (Known × List (List ℕ)) Status → Known → Known
+known_in (Ok both) other = both.0
+known_in (Err status) other = other
+
+-- what is known is that of one rip and one record
+pub compared_sectors : (input rec : List ℕ) (files : Files) (known : Known) (names : List (List ℕ)) → compared input rec files ≡ Ok (known, names)
+    → (rip : Opened) × (measured input files ≡ Ok rip) × (rip.toc.sectors ≡ known.sectors)
+unfolding second_found known_in
+compared_sectors input rec files known names is =
+    let one = second_found (measured input files) _ (known, names) is in
+    let two = second_found (recorded (record_name_of rec one.0.toc) files) _ (known, names) one.2 in
+    let three = second_found (same_layout one.0.toc two.0.toc) _ (known, names) two.2 in
+    (one.0, one.1, ap (λ r. (known_in r known).sectors) three.2)
+
+pub compared_range : (input rec : List ℕ) (files : Files) (known : Known) (names : List (List ℕ)) → compared input rec files ≡ Ok (known, names) → IsSectorCount known.sectors
+compared_range input rec files known names is =
+    let from = compared_sectors input rec files known names is in subst IsSectorCount from.2 (measured_range input files from.0 from.1)
 
 pub few_words : (known : Known) → IsSectorCount known.sectors → per_column known.sectors ≤ 65535
 few_words known range = let most : known.sectors ≤ 445500 = range.1 in omega arith
@@ -182,24 +176,28 @@ then_of_one {A = A} step files next a b one more is also = by is.0 is.1 is.2
 pub one_outcome : (read : Result Command ℕ) (files : Files) (a b : Outcome) → IsOutcomeOf read files a → IsOutcomeOf read files b → a ≡ b
 one_outcome (Err word) files a b is also = is ∙ sym also
 one_outcome (Ok (Register input rec npar)) files a b is also =
-    then_one (opened input files) files _ a b
-    (λ words _. then_one (laid_out (length words)) files _ a b (λ toc _. then_one (free rec (input ∷ []) files) files _ a b (λ _ _ is also. is ∙ sym also)))
-    is also
+    then_one (measured input files) files _ a b (λ rip _. then_one (free (record_name_of rec rip.toc) rip.names files) files _ a b (λ _ _ is also. is ∙ sym also)) is also
 one_outcome (Ok (Verify input rec offset)) files a b is also =
     then_one (compared input rec files) files _ a b
-    (λ known found. then_of_one (Picks offset known) files _ a b (picks_one known (few_words known (compared_range input rec files known found)) offset) (λ at _ is also. is ∙ sym also))
+    (λ both found.
+    let known = both.0 in
+    then_of_one (Picks offset known) files _ a b (picks_one known (few_words known (compared_range input rec files known both.1 found)) offset) (λ at _ is also. is ∙ sym also))
     is also
 one_outcome (Ok (Offsets input rec)) files a b is also =
     then_one (compared input rec files) files _ a b
-    (λ known found is also. is.2 ∙ ap (λ (list : List Candidate). listed list files)
-    (one_candidates known.count (per_column known.sectors) known.words known.stored is.0 also.0 (few_words known (compared_range input rec files known found)) is.1 also.1)
+    (λ both found is also.
+    let known = both.0 in
+    is.2 ∙ ap (λ (list : List Candidate). listed list files)
+    (one_candidates known.count (per_column known.sectors) known.words known.stored is.0 also.0 (few_words known (compared_range input rec files known both.1 found)) is.1 also.1)
     ∙ sym also.2)
     is also
 one_outcome (Ok (Repair input rec to offset)) files a b is also =
     then_one (compared input rec files) files _ a b
-    (λ known found.
-    let small = few_words known (compared_range input rec files known found) in
-    then_one (free to (input ∷ (rec ∷ [])) files) files _ a b (λ _ _. then_of_one (Picks offset known) files _ a b (picks_one known small offset)
+    (λ both found.
+    let known = both.0 in
+    let small = few_words known (compared_range input rec files known both.1 found) in
+    then_one (free to both.1 files) files _ a b (λ _ _. then_of_one (Picks offset known) files _ a b (picks_one known small offset)
     (λ at picks is also. is.2 ∙ ap (λ (mended : List ℕ). done (written_text at to) (after_put (part_of to) to (wav_bytes mended) files))
     (mended_once known small at.offset is.0 also.0 (picked_offset offset known at picks) is.1 also.1) ∙ sym also.2)))
     is also
+one_outcome (Ok (Sums input)) files a b is also = then_one (opened input files) files _ a b (λ _ _ is also. is ∙ sym also) is also

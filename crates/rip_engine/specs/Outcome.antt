@@ -1,5 +1,5 @@
 -- What a command does to the files that are held: a status, a text and the files after it.
-use Rattle.std.specs.Prelude.{◌≡◌, ◌≢◌, ◌⊎◌, ◌==◌, ℕ, List, [], ◌∷◌, length, Result, Ok, Err, Option, None, Some, IsSome, ℤ, if◌then◌else◌}
+use Rattle.std.specs.Prelude.{◌≡◌, ◌≢◌, ◌⊎◌, ◌==◌, ℕ, List, [], ◌∷◌, ◌++◌, Result, Ok, Err, Option, None, Some, IsSome, ℤ, if◌then◌else◌}
 use Rattle.std.specs.FinMap.{get}
 use Rattle.rip_outside.specs.Files.{Files, SameBut, after_put}
 use Rattle.rip_outside.specs.declared.fault.ShelfCall.{ShelfCall}
@@ -7,19 +7,24 @@ use Rattle.rip_outside.specs.declared.fault.ShelfCall.TheVariants.{Rename}
 use Rattle.column_map.specs.Columns.{per_column}
 use Rattle.syndrome_stream.specs.Parity.{image_parity}
 use Rattle.disc_toc.specs.Toc.{Toc}
+use Rattle.std.specs.Option.{option_to_list}
 use Rattle.parity_store.specs.Record.{record_bytes_of}
-use Rattle.rip_words.specs.Command.{parity_words, output_of, part_of}
+use Rattle.rip_words.specs.Command.{parity_words, part_of}
 use Rattle.wav_frames.specs.Wav.{wav_bytes}
 use Rattle.column_map.specs.declared.candidate.Candidate.{Candidate}
-use Rattle.rip_engine.specs.Steps.{Known, compared, opened, laid_out, free}
+use Rattle.parity_store.specs.Naming.{record_name_of}
+use Rattle.rip_inputs.specs.Opening.{Opened, names_read}
+use Rattle.rip_engine.specs.Steps.{Known, compared, free, measured, opened}
+use Rattle.rip_report.specs.Sums.{sums_text}
+use Rattle.rip_engine.specs.Summing.{disc_sums}
 use Rattle.rip_engine.specs.Picking.{AreKnownCandidates, AreMended, Picks}
-use Rattle.rip_engine.specs.Texts.{offsets_text, refusal_line, registered_line, verified_text, written_text}
-use Rattle.rip_engine.specs.declared.status.Status.{Status}
-use Rattle.rip_engine.specs.declared.status.Status.TheVariants.{Done, Usage, NoCandidate, Mendable}
+use Rattle.rip_report.specs.Texts.{offsets_text, refusal_line, registered_line, verified_text, written_text}
+use Rattle.rip_report.specs.declared.status.Status.{Status}
+use Rattle.rip_report.specs.declared.status.Status.TheVariants.{Done, Usage, NoCandidate, Mendable}
 use Rattle.rip_engine.specs.declared.steps.Stop.{Stop}
 use Rattle.rip_engine.specs.declared.steps.Stop.TheVariants.{Refused, ReadFault as ReadStop, WriteFault as WriteStop, Oom as WantStop}
 use Rattle.rip_words.specs.declared.Command.{Command}
-use Rattle.rip_words.specs.declared.Command.TheVariants.{Register, Verify, Offsets, Repair}
+use Rattle.rip_words.specs.declared.Command.TheVariants.{Register, Verify, Offsets, Repair, Sums}
 
 pub record Outcome : Type 0 where
   pub status : Status
@@ -49,13 +54,17 @@ ThenOf {A} step files next outcome = (found : Result A Status) × step found × 
 abbrev pub record_of : ℕ → Toc → List ℕ → List ℕ
 record_of count toc words = record_bytes_of toc count (image_parity count (per_column toc.sectors) words)
 
--- `register INPUT REC` stores the record of the rip under the name REC, with `count` parity words for each column.
+-- the record stands under this name
+abbrev pub registered : List ℕ → ℕ → Opened → Files → Outcome
+registered name count rip files = done (registered_line name rip.toc.sectors count) (after_put (part_of name) name (record_of count rip.toc rip.words) files)
+
+-- `register INPUT REC` stores the record of the rip under the name REC, or by its key in the folder REC, with `count` parity words
+-- for each column.
 abbrev pub IsRegisterOutcome : List ℕ → List ℕ → ℕ → Files → Outcome → Type 0
 IsRegisterOutcome input rec count files =
-    Then (opened input files) files (λ words.
-    Then (laid_out (length words)) files (λ toc.
-    Then (free rec (input ∷ []) files) files (λ _.
-    λ outcome. outcome ≡ done (registered_line rec toc.sectors count) (after_put (part_of rec) rec (record_of count toc words) files))))
+    Then (measured input files) files (λ rip.
+    Then (free (record_name_of rec rip.toc) rip.names files) files (λ _.
+    λ outcome. outcome ≡ registered (record_name_of rec rip.toc) count rip files))
 
 -- a rip that is near a record has wrong words, or none
 abbrev pub judged : Candidate → Files → Outcome
@@ -64,8 +73,8 @@ judged at files = if at.errors == 0 then done (verified_text at) files else refu
 -- `verify INPUT REC` tells whether the rip is near the record, at the given offset or at the only one, and its wrong words.
 abbrev pub IsVerifyOutcome : List ℕ → List ℕ → Option ℤ → Files → Outcome → Type 0
 IsVerifyOutcome input rec offset files =
-    Then (compared input rec files) files (λ known.
-    ThenOf (Picks offset known) files (λ at.
+    Then (compared input rec files) files (λ found.
+    ThenOf (Picks offset found.0) files (λ at.
     λ outcome. outcome ≡ judged at files))
 
 -- what is printed of the candidates
@@ -79,7 +88,7 @@ IsListedOutcome known files outcome = (found : List Candidate) × AreKnownCandid
 
 -- `offsets INPUT REC` lists all offsets at which the rip is near the record.
 abbrev pub IsOffsetsOutcome : List ℕ → List ℕ → Files → Outcome → Type 0
-IsOffsetsOutcome input rec files = Then (compared input rec files) files (λ known. IsListedOutcome known files)
+IsOffsetsOutcome input rec files = Then (compared input rec files) files (λ found. IsListedOutcome found.0 files)
 
 -- the mended rip stands under the name OUT
 abbrev pub IsWrittenOutcome : List ℕ → Known → Candidate → Files → Outcome → Type 0
@@ -89,10 +98,14 @@ IsWrittenOutcome to known at files outcome =
 -- `repair INPUT REC OUT` writes the rip, mended by the record, under the name OUT: at the given offset, or at the only one.
 abbrev pub IsRepairOutcome : List ℕ → List ℕ → List ℕ → Option ℤ → Files → Outcome → Type 0
 IsRepairOutcome input rec to offset files =
-    Then (compared input rec files) files (λ known.
-    Then (free to (input ∷ (rec ∷ [])) files) files (λ _.
-    ThenOf (Picks offset known) files (λ at.
-    IsWrittenOutcome to known at files)))
+    Then (compared input rec files) files (λ found.
+    Then (free to found.1 files) files (λ _.
+    ThenOf (Picks offset found.0) files (λ at.
+    IsWrittenOutcome to found.0 at files)))
+
+-- `sums INPUT` tells the rip's ids and the sums of its tracks.
+abbrev pub IsSumsOutcome : List ℕ → Files → Outcome → Type 0
+IsSumsOutcome input files = Then (opened input files) files (λ rip outcome. outcome ≡ done (sums_text rip.toc (disc_sums rip.toc rip.words)) files)
 
 -- one case for each command
 abbrev pub IsCommandOutcome : Command → Files → Outcome → Type 0
@@ -100,6 +113,7 @@ IsCommandOutcome (Register input rec npar) files outcome = IsRegisterOutcome inp
 IsCommandOutcome (Verify input rec offset) files outcome = IsVerifyOutcome input rec offset files outcome
 IsCommandOutcome (Offsets input rec) files outcome = IsOffsetsOutcome input rec files outcome
 IsCommandOutcome (Repair input rec to offset) files outcome = IsRepairOutcome input rec to offset files outcome
+IsCommandOutcome (Sums input) files outcome = IsSumsOutcome input files outcome
 
 -- The outcome of the words, by their reading, over these files. At most one outcome meets it.
 abbrev pub IsOutcomeOf : Result Command ℕ → Files → Outcome → Type 0
@@ -108,10 +122,29 @@ IsOutcomeOf (Ok read) files outcome = IsCommandOutcome read files outcome
 
 -- ---- what a command leaves
 
+-- the record's name, once the rip's layout is known
+abbrev pub record_under : List ℕ → Result Opened Status → Option (List ℕ)
+record_under rec (Ok rip) = Some (record_name_of rec rip.toc)
+record_under rec (Err status) = None
+
 -- the name under which the words ask to write
-abbrev pub written_by : Result Command ℕ → Option (List ℕ)
-written_by (Err word) = None
-written_by (Ok read) = output_of read
+abbrev pub written_by : Result Command ℕ → Files → Option (List ℕ)
+written_by (Ok (Register input rec npar)) files = record_under rec (measured input files)
+written_by (Ok (Repair input rec to offset)) files = Some to
+written_by read files = None
+
+-- the names of a rip's files and its record's, as far as they are read
+abbrev pub compared_names : List ℕ → List ℕ → Files → List (List ℕ)
+compared_names input rec files = names_read input files ++ option_to_list (record_under rec (measured input files))
+
+-- the names of the files that the words ask to read
+abbrev pub read_by : Result Command ℕ → Files → List (List ℕ)
+read_by (Err word) files = []
+read_by (Ok (Register input rec npar)) files = names_read input files
+read_by (Ok (Verify input rec offset)) files = compared_names input rec files
+read_by (Ok (Offsets input rec)) files = compared_names input rec files
+read_by (Ok (Repair input rec to offset)) files = compared_names input rec files
+read_by (Ok (Sums input)) files = names_read input files
 
 -- but for the output's part all names are as before
 abbrev pub SameButPart : Option (List ℕ) → Files → Files → Type 0

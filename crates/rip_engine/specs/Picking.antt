@@ -9,8 +9,8 @@ use Rattle.syndrome_stream.specs.Starts.{StartsStandFor}
 use Rattle.offset_slide.specs.Slides.{KeptRows, row_at_start}
 use Rattle.offset_search.specs.Near.{AreCandidates, AreFirstCandidates, Fits, IsCandidate, IsFirstUnfit}
 use Rattle.rip_engine.specs.Steps.{Known}
-use Rattle.rip_engine.specs.declared.status.Status.{Status}
-use Rattle.rip_engine.specs.declared.status.Status.TheVariants.{NoCandidate, Several, NotNear}
+use Rattle.rip_report.specs.declared.status.Status.{Status}
+use Rattle.rip_report.specs.declared.status.Status.TheVariants.{NoCandidate, Several, NotNear}
 
 -- the candidate of this offset
 abbrev pub IsKnownCandidate : Known → Candidate → Type 0

@@ -1,12 +1,11 @@
 -- What a run answers, prints and leaves.
-use Rattle.std.specs.Prelude.{◌≡◌, ◌≢◌, ◌⊎◌, ℕ, ◌/◌, ◌<◌, ◌≤◌, List, [], ◌∷◌, ◌++◌, length, take, Result, Ok, Err, Option, None, Some, IfSome, IsSome, ℤ}
+use Rattle.std.specs.Prelude.{◌≡◌, ◌≢◌, ◌⊎◌, ℕ, ◌+◌, ◌*◌, ◌/◌, ◌<◌, ◌≤◌, List, ◌++◌, take, Result, Ok, Err, Option, None, Some, IfSome, IsSome, ℤ}
 use Rattle.std.specs.Option.{option_map}
 use Rattle.std.specs.FinMap.{get}
 use Rattle.rip_outside.specs.Files.{Files, IfTold}
 use Rattle.rip_outside.specs.Causes.{Rose, IsReadCall, IsWriteCall}
 use Rattle.rip_outside.specs.Seen.{Seen}
 use Rattle.rip_outside.specs.declared.fault.ShelfCall.{ShelfCall}
-use Rattle.disc_toc.specs.Toc.{Toc}
 use Rattle.rip_words.specs.declared.Npar.{Npar}
 use Rattle.rip_words.specs.Command.{parity_words, part_of}
 use Rattle.column_map.specs.Columns.{IsOffset, WordTable, per_column, rip_word, stride}
@@ -18,13 +17,15 @@ use Rattle.wav_frames.specs.Wav.{wav_bytes}
 use Rattle.offset_search.specs.Tables.{table_of_image}
 use Rattle.offset_search.specs.Near.{HasOffset, IsNear, apart, damaged_columns, error_count}
 use Rattle.rip_engine.specs.Picking.{AreKnownCandidates, FitsKnown}
-use Rattle.rip_engine.specs.Steps.{Known, compared, free, opened, laid_out}
-use Rattle.rip_engine.specs.Outcome.{Outcome, record_of, IsOutcomeOf, written_by, SameButPart, SameButOutput}
-use Rattle.rip_engine.specs.Texts.{registered_line, refusal_line, read_fault_line, write_fault_line, offsets_text, written_text}
+use Rattle.parity_store.specs.Naming.{record_name_of}
+use Rattle.rip_inputs.specs.Opening.{Opened, lengths_of}
+use Rattle.rip_engine.specs.Steps.{Known, compared, free, measured}
+use Rattle.rip_engine.specs.Outcome.{Outcome, record_of, IsOutcomeOf, read_by, written_by, SameButPart, SameButOutput}
+use Rattle.rip_report.specs.Texts.{registered_line, refusal_line, read_fault_line, write_fault_line, offsets_text, written_text}
 use Rattle.rip_words.specs.declared.Command.{Command}
 use Rattle.rip_words.specs.declared.Command.TheVariants.{Register, Offsets, Repair}
-use Rattle.rip_engine.specs.declared.status.Status.{Status}
-use Rattle.rip_engine.specs.declared.status.Status.TheVariants.{Done, ReadFault, WriteFault, SinkFault, WantOfMemory}
+use Rattle.rip_report.specs.declared.status.Status.{Status}
+use Rattle.rip_report.specs.declared.status.Status.TheVariants.{Done, ReadFault, WriteFault, SinkFault, WantOfMemory}
 use Rattle.rip_engine.specs.declared.steps.Stop.{Stop}
 use Rattle.rip_engine.specs.declared.steps.Stop.TheVariants.{Refused, ReadFault as ReadStop, WriteFault as WriteStop, Oom as WantStop}
 
@@ -70,22 +71,26 @@ IsAnswered WantOfMemory = ⊥
 IsAnswered _ = Unit {0}
 
 -- the command writes a file in this outcome
-abbrev pub IsWritten : Result Command ℕ → Outcome → Type 0
-IsWritten read outcome = (outcome.status ≡ Done) × IsSome (written_by read)
+abbrev pub IsWritten : Result Command ℕ → Files → Outcome → Type 0
+IsWritten read files outcome = (outcome.status ≡ Done) × IsSome (written_by read files)
+
+-- no name but the output's part changed
+abbrev pub KeepsButPart : Result Command ℕ → Seen → Seen → Type 0
+KeepsButPart read before after = IfTold (λ old new. SameButPart (written_by read old) old new) before.held after.held
 
 -- A fault of reading is that of a command, its call is one that reads and its count rose, and no name but the part's changed.
 pub record ReadFailed (read : Result Command ℕ) (before after : Seen) (call : ShelfCall) : Type 0 where
   pub reads : IsReadCall call
   pub rose : Rose (before.faults call) (after.faults call)
   pub asked : IsCommand read
-  pub leaves : IfTold (SameButPart (written_by read)) before.held after.held
+  pub leaves : KeepsButPart read before after
 
 -- A fault of writing comes only where the outcome is written, its call is one that writes and its count rose, and the output isn't
 -- held or after a failed rename holds the whole; no other name but the part's changed.
 pub record WriteFailed (read : Result Command ℕ) (before after : Seen) (call : ShelfCall) : Type 0 where
   pub writes : IsWriteCall call
   pub rose : Rose (before.faults call) (after.faults call)
-  pub leaves : IfTold (λ old new. (wanted : Outcome) × IsOutcomeOf read old wanted × IsWritten read wanted × SameButOutput (written_by read) call wanted.files old new) before.held after.held
+  pub leaves : IfTold (λ old new. (wanted : Outcome) × IsOutcomeOf read old wanted × IsWritten read old wanted × SameButOutput (written_by read old) call wanted.files old new) before.held after.held
 
 -- this text and these files are the outcome's
 abbrev pub IsOutcomeText : Result Command ℕ → Seen → Seen → List ℕ → Type 0
@@ -121,12 +126,12 @@ SinkFaultHasCause read before after status = status ≡ SinkFault →
 -- Want of memory prints nothing, and changes no name but the part's.
 abbrev pub WantOfMemoryKeeps : Result Command ℕ → Seen → Seen → Status → Type 0
 WantOfMemoryKeeps read before after status = status ≡ WantOfMemory →
-    (after.told ≡ before.told) × IfTold (SameButPart (written_by read)) before.held after.held
+    (after.told ≡ before.told) × KeepsButPart read before after
 
 -- Where the outcome isn't written, nothing that is held changes, whatever the status is.
 abbrev pub NothingWritten : Result Command ℕ → Seen → Seen → Status → Type 0
 NothingWritten read before after status = IfSome before.held (λ files.
-    (outcome : Outcome) → IsOutcomeOf read files outcome → (IsWritten read outcome → ⊥) → after.held ≡ Some files)
+    (outcome : Outcome) → IsOutcomeOf read files outcome → (IsWritten read files outcome → ⊥) → after.held ≡ Some files)
 
 -- Where no call failed, the status is the outcome's or want of memory.
 abbrev pub Completes : Result Command ℕ → Seen → Seen → Status → Type 0
@@ -134,16 +139,20 @@ Completes read before after status =
     ((call : ShelfCall) → Rose (before.faults call) (after.faults call) → ⊥) → (Rose before.sink_faults after.sink_faults → ⊥) →
     (status ≡ WantOfMemory) ⊎ IfSome before.held (λ files. (outcome : Outcome) × IsOutcomeOf read files outcome × (outcome.status ≡ status))
 
+-- Where no call of the shelf failed, at most three times the bytes of the files that the command reads are taken.
+abbrev pub BytesTaken : Result Command ℕ → Seen → Seen → Type 0
+BytesTaken read before after =
+    ((call : ShelfCall) → Rose (before.faults call) (after.faults call) → ⊥) →
+    IfSome before.held (λ files. after.taken ≤ before.taken + 3 * lengths_of (read_by read files) files)
+
 -- What `register` stores when it is done: the record's name holds the record of the rip, which is its layout and the parity of its
 -- words; the part isn't held; and the text went out.
 pub record Stored (input rec : List ℕ) (count : ℕ) (files now : Files) (text : List ℕ) : Type 0 where
-  pub words : List ℕ
-  pub toc : Toc
-  pub opens : opened input files ≡ Ok words
-  pub lays_out : laid_out (length words) ≡ Ok toc
-  pub holds : get now rec ≡ Some (record_of count toc words)
-  pub part_gone : get now (part_of rec) ≡ None
-  pub prints : text ≡ registered_line rec toc.sectors count
+  pub rip : Opened
+  pub opens : measured input files ≡ Ok rip
+  pub holds : get now (record_name_of rec rip.toc) ≡ Some (record_of count rip.toc rip.words)
+  pub part_gone : get now (part_of (record_name_of rec rip.toc)) ≡ None
+  pub prints : text ≡ registered_line (record_name_of rec rip.toc) rip.toc.sectors count
 
 abbrev pub StoresParity : Result Command ℕ → Seen → Seen → Status → Type 0
 StoresParity read before after status = (input rec : List ℕ) (npar : Npar) → read ≡ Ok (Register input rec npar) → status ≡ Done →
@@ -183,8 +192,8 @@ pub record Repaired (to : List ℕ) (known : Known) (files now : Files) (text : 
 -- that differs from the shifted rip within the radius in every column; that table is the only one, its words are written, and all
 -- uncovered words are the rip's. It is so for every rip and every record of one layout, where the output's name is free.
 abbrev pub RepairIsExact : Result Command ℕ → Seen → Seen → Status → Type 0
-RepairIsExact read before after status = (input rec to : List ℕ) (offset : Option ℤ) (known : Known) → read ≡ Ok (Repair input rec to offset) →
-    IfSome before.held (λ files. compared input rec files ≡ Ok known → free to (input ∷ (rec ∷ [])) files ≡ Ok tt →
+RepairIsExact read before after status = (input rec to : List ℕ) (offset : Option ℤ) (known : Known) (names : List (List ℕ)) → read ≡ Ok (Repair input rec to offset) →
+    IfSome before.held (λ files. compared input rec files ≡ Ok (known, names) → free to names files ≡ Ok tt →
     (status ≡ Done → (now : Files) × (text : List ℕ) × (after.held ≡ Some now) × Wrote text before.told after.told × ((d : ℤ) × IsOffsetToMend offset known d × Repaired to known files now text d))
     × (NoneFailed before after → (d : ℤ) → IsOffsetToMend offset known d → (status ≡ Done) ⊎ (status ≡ WantOfMemory)))
 
@@ -199,10 +208,10 @@ pub record IsDamagedRip (known : Known) (image : List ℕ) (d : ℤ) : Type 0 wh
 -- The offset of a damaged rip of a registered disc is in the list that `offsets` prints; and where `repair` is done at that offset,
 -- the words that it writes where columns have words are the registered ones.
 abbrev pub DamagedDiscIsFound : Result Command ℕ → Seen → Seen → Status → Type 0
-DamagedDiscIsFound read before after status = (input rec : List ℕ) (known : Known) (image : List ℕ) (d : ℤ) → IsDamagedRip known image d →
-    IfSome before.held (λ files. compared input rec files ≡ Ok known →
+DamagedDiscIsFound read before after status = (input rec : List ℕ) (known : Known) (names : List (List ℕ)) (image : List ℕ) (d : ℤ) → IsDamagedRip known image d →
+    IfSome before.held (λ files. compared input rec files ≡ Ok (known, names) →
     (read ≡ Ok (Offsets input rec) → NoneFailed before after →
     (status ≡ WantOfMemory) ⊎ ((status ≡ Done) × ((found : List Candidate) × AreKnownCandidates known found × HasOffset found d × Wrote (offsets_text found) before.told after.told)))
-    × ((to : List ℕ) (offset : Option ℤ) → read ≡ Ok (Repair input rec to offset) → free to (input ∷ (rec ∷ [])) files ≡ Ok tt → IsOffsetToMend offset known d → status ≡ Done →
+    × ((to : List ℕ) (offset : Option ℤ) → read ≡ Ok (Repair input rec to offset) → free to names files ≡ Ok tt → IsOffsetToMend offset known d → status ≡ Done →
     (now : Files) × (written : List ℕ) × (after.held ≡ Some now) × (get now to ≡ Some (wav_bytes written))
     × ((j k : ℕ) → j < stride → k < per_column known.sectors → rip_word written d j k ≡ table_of_image image j k)))

@@ -7,10 +7,8 @@ mod reading;
 mod registering;
 mod repairing;
 mod running;
-mod status;
 mod steps;
-mod texts;
+mod summing;
 mod verifying;
 
 pub use running::run;
-pub use status::Status;

@@ -8,18 +8,17 @@ ghost use Rattle.offset_slide.specs.Slides.{TableAndEdgesStandFor};
 ghost use Rattle.image_mender.specs.Joined.{AreInFiles, joined_words, word_count};
 ghost use Rattle.rip_words.specs.Command.{parity_words};
 ghost use Rattle.parity_store.specs.Record.{count_of, rows_of};
-ghost use Rattle.rip_engine.specs.Steps.{OnlyReads};
+ghost use Rattle.rip_engine.specs.Steps.{OnlyReads, Takes};
 
-use crate::steps::{Stop, name_of};
+use crate::steps::Stop;
 use column_map::Shape;
-use image_mender::{Image, Part};
+use image_mender::Image;
 use offset_slide::Edges;
 use parity_store::Parity;
 use rip_outside::{Oom, Shelf, ShelfCall};
 use rip_words::Npar;
 use std::alloc::Global;
 use syndrome_stream::{Registers, Table};
-use wav_frames::WavAt;
 
 /// The words that are read or written at a time.
 pub const PIECE: usize = 65_536;
@@ -44,25 +43,6 @@ pub fn zero_words(alloc: Global, count: usize) -> Result<Vec<u16>, Oom>
     }
 }
 
-/// The image of a rip that is one WAV file.
-pub fn sole_image(alloc: Global, input: &str, wav: WavAt) -> Result<Image, Oom>
-    requires few { wav.words ≤ 523908000 }
-    requires ends { wav.data_at + 2 * wav.words < 2 ^ 64 }
-    ensures { IfOk result (λ image. image ≡ record { name = input.now; data_at = wav.data_at; words = wav.words } ∷ []) }
-{
-    let name = name_of(alloc, input)?;
-    let part = Part {
-        name,
-        data_at: wav.data_at,
-        words: wav.words,
-    };
-    let mut parts = Vec::new(alloc);
-    match parts.push(part) {
-        Ok(()) => Ok(Image::of(parts)),
-        Err(_) => Err(Oom),
-    }
-}
-
 /// Reads the rip's words once, in pieces: the parity of its columns is summed, and its edges are kept.
 pub fn sum_rip<const P: usize, S: Shelf>(
     alloc: Global,
@@ -79,6 +59,7 @@ pub fn sum_rip<const P: usize, S: Shelf>(
     ensures same { S.held shelf.new ≡ S.held shelf.old }
     ensures cause { OnlyReads (S.faults shelf.old) (S.faults shelf.new) result }
     ensures later { NoneFell (S.faults shelf.old) (S.faults shelf.new) }
+    ensures taken { Takes (2 * word_count image.now) result (S.taken shelf.old) (S.taken shelf.new) }
 {
     let mut registers = Registers::<P>::new(alloc, shape)?;
     let mut edges = Edges::new(alloc, shape)?;
@@ -116,6 +97,7 @@ pub fn parity_of<S: Shelf>(
     ensures same { S.held shelf.new ≡ S.held shelf.old }
     ensures cause { OnlyReads (S.faults shelf.old) (S.faults shelf.new) result }
     ensures later { NoneFell (S.faults shelf.old) (S.faults shelf.new) }
+    ensures taken { Takes (2 * word_count image.now) result (S.taken shelf.old) (S.taken shelf.new) }
 {
     match npar {
         Npar::Four => match sum_rip::<4, S>(alloc, shelf, image, shape) {

@@ -1,5 +1,5 @@
 // `repair`: a rip is written anew, mended by a record.
-ghost use Rattle.std.specs.Prelude.{◌≡◌, ◌≢◌, ◌<◌, All, IfSome, Some, None};
+ghost use Rattle.std.specs.Prelude.{◌≡◌, ◌≢◌, ◌*◌, ◌<◌, All, IfSome, Some, None};
 ghost use Rattle.std.specs.Option.{ForSome};
 ghost use Rattle.std.specs.List.Sorted.{IsStrictlyIncreasing};
 ghost use Rattle.std.specs.FinMap.{get};
@@ -11,17 +11,18 @@ ghost use Rattle.image_mender.specs.declared.image.Part.{Part};
 ghost use Rattle.image_mender.specs.Joined.{AreInFiles, joined_words, word_count};
 ghost use Rattle.image_mender.specs.Patched.{patched};
 ghost use Rattle.rip_words.specs.Command.{part_of};
-ghost use Rattle.rip_engine.specs.Steps.{StopsWithCause, mend_stop};
-ghost use Rattle.rip_engine.specs.Texts.{written_text};
-ghost use Rattle.rip_engine.specs.Outcome.{IsRepairOutcome, Leaves, done};
+ghost use Rattle.rip_engine.specs.Steps.{StopsWithCause, Takes, mend_stop};
+ghost use Rattle.rip_report.specs.Texts.{written_text};
+ghost use Rattle.rip_inputs.specs.Opening.{lengths_of};
+ghost use Rattle.rip_engine.specs.Outcome.{IsRepairOutcome, Leaves, compared_names, done};
 
 use crate::comparing::{Compared, compare};
 use crate::picking::{Picked, pick_of};
 use crate::reading::{PIECE, zero_bytes, zero_words};
-use crate::steps::{Stop, check_free, is_input_or_record, part_name};
-use crate::texts::written_text;
+use crate::steps::{Stop, check_free, is_read, name_of, part_name};
 use image_mender::{Image, MendFail, write_mended};
 use rip_outside::{Shelf, Text};
+use rip_report::{Report, text_of};
 use std::alloc::Global;
 
 fn mend_stop(fail: MendFail) -> Stop
@@ -51,8 +52,13 @@ fn write_repair<S: Shelf>(
     requires lie { All (λ place. place < word_count image.now) (places picked.now.fixes.items) }
     ensures leaves { IfSome (S.held shelf.old) (λ files. Leaves (λ o. o ≡ done (written_text picked.now.at to.now) (after_put part.now to.now (wav_bytes (patched picked.now.fixes.items (joined_words image.now files))) files)) (Some to.now) files result (S.held shelf.new)) }
     ensures cause { StopsWithCause (S.faults shelf.old) (S.faults shelf.new) result }
+    ensures taken { Takes (2 * word_count image.now) result (S.taken shelf.old) (S.taken shelf.new) }
 {
-    let text = written_text(alloc, picked.at, to)?;
+    let written = Report::Written {
+        at: picked.at,
+        name: name_of(alloc, to)?,
+    };
+    let text = text_of(alloc, &written)?;
     let mut words = zero_words(alloc, PIECE)?;
     let mut bytes = zero_bytes(alloc, 2 * PIECE)?;
     match write_mended(
@@ -81,14 +87,17 @@ pub fn repair<S: Shelf>(
     requires { IfSome offset IsOffset }
     ensures leaves { IfSome (S.held shelf.old) (λ files. Leaves (IsRepairOutcome input.now rec.now to.now offset files) (Some to.now) files result (S.held shelf.new)) }
     ensures cause { StopsWithCause (S.faults shelf.old) (S.faults shelf.new) result }
+    ensures taken { IfSome (S.held shelf.old) (λ files. Takes (3 * lengths_of (compared_names input.now rec.now files) files) result (S.taken shelf.old) (S.taken shelf.new)) }
 {
     let Compared {
         image,
         shape,
         parity,
+        names,
+        rec: name,
     } = compare(alloc, shelf, input, rec)?;
     let part = part_name(alloc, to)?;
-    let is_read = is_input_or_record(part.as_str(), input, rec);
+    let is_read = is_read(part.as_str(), names.as_slice(), name.as_str());
     check_free(alloc, shelf, to, part.as_str(), is_read)?;
     let picked = pick_of(alloc, shelf, &image, shape, parity, offset, true)?;
     write_repair(alloc, shelf, &image, &picked, part.as_str(), to)

@@ -1,5 +1,5 @@
 // The steps that commands share: each refuses with a status, or finds what the next one goes on with.
-ghost use Rattle.std.specs.Prelude.{◌≡◌, ◌+◌, ◌*◌, ◌≤◌, ◌∷◌, [], length, false, IfSome, IfOk};
+ghost use Rattle.std.specs.Prelude.{◌≡◌, ◌*◌, ◌≤◌, ◌++◌, ◌∷◌, [], All, Contains, length, false, IfSome, IfOk};
 ghost use Rattle.std.specs.List.{list_any};
 ghost use Rattle.std.specs.Str.{bytes_eq};
 ghost use Rattle.std.specs.Option.{ForSome};
@@ -8,19 +8,22 @@ ghost use Rattle.rip_outside.specs.Files.{after_put, bytes_at};
 ghost use Rattle.rip_outside.specs.Causes.{NoneFell};
 ghost use Rattle.column_map.specs.Columns.{IsSectorCount};
 ghost use Rattle.disc_toc.specs.Toc.{toc_of};
-ghost use Rattle.wav_frames.specs.Opening.{IsInFile, wav_words};
+ghost use Rattle.image_mender.specs.Joined.{AreInFiles, word_count};
+ghost use Rattle.image_mender.specs.declared.image.Part.{Part};
 ghost use Rattle.parity_store.specs.Reading.{stored_of};
+ghost use Rattle.rip_inputs.specs.Opening.{lengths_of, names_read};
+ghost use Rattle.rip_inputs.specs.Telling.{opened_of};
 ghost use Rattle.rip_words.specs.Command.{part_of};
-ghost use Rattle.rip_engine.specs.Steps.{opened, laid_out, recorded, same_layout, freed, stop_of, Does, OnlyRefuses, ReadsWithCause, StopsWithCause};
+ghost use Rattle.rip_engine.specs.Steps.{opened, measured, recorded, rip_stop, same_layout, freed, stop_of, Does, OnlyRefuses, ReadsWithCause, StopsWithCause, Takes};
 ghost use Rattle.rip_engine.specs.Outcome.{Leaves, done};
 
-use crate::status::Status;
 use column_map::Shape;
-use disc_toc::{Layout, LayoutFail, LayoutKind, first_difference, one_track};
+use disc_toc::{Layout, LayoutKind, first_difference};
 use parity_store::{FindFail, PutFail, Record, find, put};
+use rip_inputs::{Rip, RipFail, open_rip};
 use rip_outside::{Name, Oom, Shelf, ShelfCall, Text};
+use rip_report::Status;
 use std::alloc::Global;
-use wav_frames::{WavAt, WavFail, open_wav};
 
 /// Why a command stopped before its report.
 #[derive(Debug, Drop)]
@@ -66,52 +69,63 @@ pub fn part_name(alloc: Global, out: &str) -> Result<Name, Oom>
     }
 }
 
-/// Opens the rip's WAV file: where its words stand, or why it is refused.
-pub fn open_input<S: Shelf>(alloc: Global, shelf: &mut S, input: &str) -> Result<WavAt, Stop>
-    ensures answer { IfSome (S.held shelf.old) (λ files. Does (wav_words (bytes_at input.now files)) result (opened input.now files)) }
-    ensures inside { IfSome (S.held shelf.old) (λ files. IfOk result (λ wav. wav.data_at + 2 * wav.words ≤ length (bytes_at input.now files))) }
-    ensures place { IfOk result IsInFile }
-    ensures same { S.held shelf.new ≡ S.held shelf.old }
-    ensures cause { ReadsWithCause (S.faults shelf.old) (S.faults shelf.new) result }
-    ensures later { NoneFell (S.faults shelf.old) (S.faults shelf.new) }
+fn rip_stop(fail: RipFail) -> Stop
+    ensures { result ≡ rip_stop fail }
 {
-    match open_wav(shelf, input) {
-        Ok(wav) => Ok(wav),
-        Err(WavFail::Missing) => {
-            let name = name_of(alloc, input)?;
-            Err(Stop::Refused(Status::Missing { name }))
+    match fail {
+        RipFail::Missing { name } => Stop::Refused(Status::Missing { name }),
+        RipFail::CueRefused { line, kind } => Stop::Refused(Status::CueRefused { line, kind }),
+        RipFail::WavRefused { name, kind, at } => {
+            Stop::Refused(Status::WavRefused { name, kind, at })
         }
-        Err(WavFail::Refused { kind, at }) => {
-            let name = name_of(alloc, input)?;
-            Err(Stop::Refused(Status::WavRefused { name, kind, at }))
-        }
-        Err(WavFail::ReadFault { call }) => Err(Stop::ReadFault { call }),
+        RipFail::LayoutRefused { kind } => Stop::Refused(Status::LayoutRefused { kind }),
+        RipFail::ReadFault { call } => Stop::ReadFault { call },
+        RipFail::Oom => Stop::Oom,
     }
 }
 
-/// The layout of a rip of so many words, which is one track, and the shape of its image.
-pub fn lay_out(alloc: Global, words: u64) -> Result<(Layout, Shape), Stop>
-    requires { words ≤ 2147483647 }
-    ensures answer { Does (λ found. toc_of found.0) result (laid_out words) }
-    ensures shape { IfOk result (λ found. found.1 ≡ found.0.sectors) }
-    ensures range { IfOk result (λ found. IsSectorCount found.1) }
-    ensures count { IfOk result (λ found. words ≡ 1176 * found.0.sectors) }
-    ensures cause { OnlyRefuses result }
+/// Opens the rip: its layout, its image and the names that were read, or why it is refused.
+pub fn open_input<S: Shelf>(alloc: Global, shelf: &mut S, input: &str) -> Result<Rip, Stop>
+    ensures answer { IfSome (S.held shelf.old) (λ files. Does (λ rip. opened_of rip files) result (opened input.now files)) }
+    ensures inside { IfSome (S.held shelf.old) (λ files. IfOk result (λ rip. AreInFiles rip.image files)) }
+    ensures count { IfOk result (λ rip. word_count rip.image ≡ 1176 * rip.layout.sectors) }
+    ensures named { IfOk result (λ rip. All (λ (part : Part). Contains rip.names part.name) rip.image) }
+    ensures same { S.held shelf.new ≡ S.held shelf.old }
+    ensures cause { ReadsWithCause (S.faults shelf.old) (S.faults shelf.new) result }
+    ensures later { NoneFell (S.faults shelf.old) (S.faults shelf.new) }
+    ensures taken { IfSome (S.held shelf.old) (λ files. Takes (lengths_of (names_read input.now files) files) result (S.taken shelf.old) (S.taken shelf.new)) }
 {
-    let layout = match one_track(alloc, words) {
-        Ok(layout) => layout,
-        Err(LayoutFail::Refused { kind }) => {
-            return Err(Stop::Refused(Status::LayoutRefused { kind }));
-        }
-        Err(LayoutFail::Oom) => return Err(Stop::Oom),
-    };
-    let sectors = layout.sectors;
+    match open_rip(alloc, shelf, input) {
+        Ok(rip) => Ok(rip),
+        Err(fail) => Err(rip_stop(fail)),
+    }
+}
+
+/// Opens the rip, which has to be long enough for parity, and tells the shape of its image.
+pub fn open_measured<S: Shelf>(
+    alloc: Global,
+    shelf: &mut S,
+    input: &str,
+) -> Result<(Rip, Shape), Stop>
+    ensures answer { IfSome (S.held shelf.old) (λ files. Does (λ found. opened_of found.0 files) result (measured input.now files)) }
+    ensures inside { IfSome (S.held shelf.old) (λ files. IfOk result (λ found. AreInFiles found.0.image files)) }
+    ensures shape { IfOk result (λ found. found.1 ≡ found.0.layout.sectors) }
+    ensures range { IfOk result (λ found. IsSectorCount found.1) }
+    ensures count { IfOk result (λ found. word_count found.0.image ≡ 1176 * found.1) }
+    ensures named { IfOk result (λ found. All (λ (part : Part). Contains found.0.names part.name) found.0.image) }
+    ensures same { S.held shelf.new ≡ S.held shelf.old }
+    ensures cause { ReadsWithCause (S.faults shelf.old) (S.faults shelf.new) result }
+    ensures later { NoneFell (S.faults shelf.old) (S.faults shelf.new) }
+    ensures taken { IfSome (S.held shelf.old) (λ files. Takes (lengths_of (names_read input.now files) files) result (S.taken shelf.old) (S.taken shelf.new)) }
+{
+    let rip = open_input(alloc, shelf, input)?;
+    let sectors = rip.layout.sectors;
     let Some(shape) = Shape::of(sectors) else {
         return Err(Stop::Refused(Status::LayoutRefused {
             kind: LayoutKind::TooShort { sectors },
         }));
     };
-    Ok((layout, shape))
+    Ok((rip, shape))
 }
 
 /// Finds the record under a name, or why there is none.
@@ -120,6 +134,7 @@ pub fn find_record<S: Shelf>(alloc: Global, shelf: &mut S, name: &str) -> Result
     ensures same { S.held shelf.new ≡ S.held shelf.old }
     ensures cause { ReadsWithCause (S.faults shelf.old) (S.faults shelf.new) result }
     ensures later { NoneFell (S.faults shelf.old) (S.faults shelf.new) }
+    ensures taken { IfSome (S.held shelf.old) (λ files. Takes (length (bytes_at name.now files)) result (S.taken shelf.old) (S.taken shelf.new)) }
 {
     match find(alloc, shelf, name) {
         Ok(rec) => Ok(rec),
@@ -144,18 +159,26 @@ pub fn check_layout(rip: &Layout, kept: &Layout) -> Result<(), Stop>
     }
 }
 
-/// Whether an output's part is the rip's file, which is read.
-pub fn is_input(part: &str, input: &str) -> bool
-    ensures { result ≡ list_any (bytes_eq part.now) (input.now ∷ []) }
+/// Whether an output's part is one of the names that are read.
+pub fn is_among(part: &str, names: &[Name]) -> bool
+    ensures { result ≡ list_any (bytes_eq part.now) names.now }
 {
-    part == input
+    for name in names {
+        if part == name.as_str() {
+            return true;
+        }
+    }
+    false
 }
 
-/// Whether an output's part is the rip's file or the record, which are read.
-pub fn is_input_or_record(part: &str, input: &str, rec: &str) -> bool
-    ensures { result ≡ list_any (bytes_eq part.now) (input.now ∷ (rec.now ∷ [])) }
+/// Whether an output's part is the record or one of the rip's names, which are read.
+pub fn is_read(part: &str, names: &[Name], rec: &str) -> bool
+    ensures { result ≡ list_any (bytes_eq part.now) (names.now ++ rec.now ∷ []) }
 {
-    part == input || part == rec
+    if is_among(part, names) {
+        return true;
+    }
+    part == rec
 }
 
 /// Sees that the output's name is free: it isn't held, and its part isn't a file that is read.
@@ -172,6 +195,7 @@ pub fn check_free<S: Shelf>(
     ensures same { S.held shelf.new ≡ S.held shelf.old }
     ensures cause { ReadsWithCause (S.faults shelf.old) (S.faults shelf.new) result }
     ensures later { NoneFell (S.faults shelf.old) (S.faults shelf.new) }
+    ensures taken { S.taken shelf.new ≡ S.taken shelf.old }
 {
     let Ok(size) = shelf.size(out) else {
         return Err(Stop::ReadFault {
@@ -211,6 +235,7 @@ pub fn write_out<S: Shelf>(
     ensures leaves { IfSome (S.held shelf.old) (λ files. Leaves (λ o. o ≡ done text (after_put part.now out.now bytes.now files)) (Some out.now) files result (S.held shelf.new)) }
     ensures cause { StopsWithCause (S.faults shelf.old) (S.faults shelf.new) result }
     ensures later { NoneFell (S.faults shelf.old) (S.faults shelf.new) }
+    ensures taken { S.taken shelf.new ≡ S.taken shelf.old }
 {
     match put(shelf, bytes, part, out) {
         Ok(()) => Ok(text),

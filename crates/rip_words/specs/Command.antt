@@ -1,12 +1,12 @@
 -- The words of the command line.
-use Rattle.std.specs.Prelude.{None, ◌≡◌, ℕ, ◌+◌, ◌-◌, ◌==◌, ◌&&◌, nat_eq, nat_le, Bool, false, not, List, [], ◌∷◌, ◌++◌, length, drop, Result, Ok, Err, codes, map, String, if◌then◌else◌, Option, Some, unwrap_or, ℤ}
-use Rattle.std.specs.List.{ends_with, starts_with}
-use Rattle.std.specs.Str.{all_ascii_digits, bytes_eq, str_eq_ignore_ascii_case}
+use Rattle.std.specs.Prelude.{None, ◌≡◌, ℕ, ◌+◌, ◌==◌, ◌&&◌, nat_eq, nat_le, Bool, false, not, List, [], ◌∷◌, ◌++◌, length, drop, Result, Ok, Err, codes, map, String, if◌then◌else◌, Option, Some, unwrap_or, ℤ}
+use Rattle.std.specs.List.{starts_with}
+use Rattle.std.specs.Str.{all_ascii_digits, bytes_eq}
 use Rattle.std.specs.Str.Parse.{digits_value, signed_digits_value, without_leading_sign}
 use Rattle.std.specs.String.{string_bytes}
 use Rattle.std.specs.declared.alloc.Global.{Global}
 use Rattle.rip_words.specs.declared.Command.{Command}
-use Rattle.rip_words.specs.declared.Command.TheVariants.{Register, Verify, Offsets, Repair}
+use Rattle.rip_words.specs.declared.Command.TheVariants.{Register, Verify, Offsets, Repair, Sums}
 use Rattle.rip_words.specs.declared.Npar.{Npar}
 use Rattle.rip_words.specs.declared.Npar.TheVariants.{Four, Eight, Sixteen}
 use Rattle.rip_words.specs.declared.Verb.{Verb}
@@ -21,22 +21,6 @@ texts words = map string_bytes words
 abbrev pub is_name : List ℕ → Bool
 is_name [] = false
 is_name (first ∷ rest) = not (first == 45)
-
--- a cue sheet's name ends in ".cue", in any case of its letters
-abbrev pub is_sheet : List ℕ → Bool
-is_sheet name = str_eq_ignore_ascii_case (drop (length name - 4) name) (codes ".cue")
-
--- a folder's name ends in "/"
-abbrev pub is_folder : List ℕ → Bool
-is_folder name = ends_with nat_eq name (codes "/")
-
--- a rip is read from one WAV file, and no sheet can be read yet
-abbrev pub is_input : List ℕ → Bool
-is_input name = is_name name && not (is_sheet name)
-
--- a record stands under its own name, and no name is made for it in a folder yet
-abbrev pub is_record : List ℕ → Bool
-is_record name = is_name name && not (is_folder name)
 
 -- how many parity words there are for each column
 abbrev pub parity_words : Npar → ℕ
@@ -77,7 +61,7 @@ abbrev pub option_words : {A : Type 0} → (List ℕ → Option A) → ℕ → L
 option_words read at [] = Ok None
 option_words read at (option ∷ rest) = last_option at (read option) rest
 
--- ---- the commands
+-- ---- the commands on a record
 
 -- the command with the value of its option
 abbrev pub with_option : {A : Type 0} → (A → Command) → Result A ℕ → Result Command ℕ
@@ -100,14 +84,14 @@ command_words ToRepair input rec words = out_words input rec words
 -- the words after a command's own and INPUT: REC, and what that command has
 abbrev pub record_words : Verb → List ℕ → List (List ℕ) → Result Command ℕ
 record_words verb input [] = Err 2
-record_words verb input (rec ∷ rest) = if is_record rec then command_words verb input rec rest else Err 2
+record_words verb input (rec ∷ rest) = if is_name rec then command_words verb input rec rest else Err 2
 
--- the words after a command's own: INPUT, REC, and what that command has
+-- the words after the own one of a command on a record: INPUT, REC, and what that command has
 abbrev pub input_words : Verb → List (List ℕ) → Result Command ℕ
 input_words verb [] = Err 1
-input_words verb (input ∷ rest) = if is_input input then record_words verb input rest else Err 1
+input_words verb (input ∷ rest) = if is_name input then record_words verb input rest else Err 1
 
--- the commands' own words
+-- the own words of the commands on a record
 abbrev pub verb_of : List ℕ → Option Verb
 verb_of word =
     if bytes_eq word (codes "register") then Some ToRegister
@@ -116,15 +100,31 @@ verb_of word =
     else if bytes_eq word (codes "repair") then Some ToRepair
     else None
 
--- the words after the first
+-- the words after the first, of a command on a record
 abbrev pub verb_words : Option Verb → List (List ℕ) → Result Command ℕ
 verb_words None rest = Err 0
 verb_words (Some verb) rest = input_words verb rest
 
+-- ---- the other commands
+
+-- no word stands at this index
+abbrev pub no_word : ℕ → Command → List (List ℕ) → Result Command ℕ
+no_word at command [] = Ok command
+no_word at command (more ∷ rest) = Err at
+
+-- the words after `sums`: INPUT
+abbrev pub sums_words : List (List ℕ) → Result Command ℕ
+sums_words [] = Err 1
+sums_words (input ∷ rest) = if is_name input then no_word 2 (Sums input) rest else Err 1
+
+-- ---- all commands
+
 -- The command, or the index of the first word that breaks a rule, or the number of words where one is missing.
 abbrev pub command_reading : List (List ℕ) → Result Command ℕ
 command_reading [] = Err 0
-command_reading (first ∷ rest) = verb_words (verb_of first) rest
+command_reading (first ∷ rest) =
+    if bytes_eq first (codes "sums") then sums_words rest
+    else verb_words (verb_of first) rest
 
 -- what is read is the meaning of the words
 abbrev pub Reads : {A : Type 0} → Result A WordsFail → Result A ℕ → Type 0
@@ -132,19 +132,13 @@ Reads (Ok read) meaning = meaning ≡ Ok read
 Reads (Err (Usage word)) meaning = meaning ≡ Err word
 Reads (Err Oom) meaning = Unit {0}
 
--- the offset that a command gives
+-- the offset that a command gives the rip
 abbrev pub offset_in : Command → Option ℤ
 offset_in (Register input rec npar) = None
 offset_in (Verify input rec offset) = offset
 offset_in (Offsets input rec) = None
 offset_in (Repair input rec to offset) = offset
-
--- the name that a command writes under
-abbrev pub output_of : Command → Option (List ℕ)
-output_of (Register input rec npar) = Some rec
-output_of (Verify input rec offset) = None
-output_of (Offsets input rec) = None
-output_of (Repair input rec to offset) = Some to
+offset_in (Sums input) = None
 
 -- the name under which an output is made before it gets its own
 abbrev pub part_of : List ℕ → List ℕ

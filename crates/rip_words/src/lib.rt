@@ -5,7 +5,7 @@ ghost use Rattle.std.specs.Prelude.{◌≡◌, ◌<◌, ◌^◌, ◌+◌, IfOk, 
 ghost use Rattle.std.specs.Str.Parse.{without_leading_sign};
 ghost use Rattle.std.specs.String.{string_bytes};
 ghost use Rattle.column_map.specs.Columns.{IsOffset};
-ghost use Rattle.rip_words.specs.Command.{Reads, command_reading, command_words, input_words, is_folder, is_input, is_name, is_record, is_sheet, last_option, npar_option, offset_in, offset_of, offset_option, option_words, out_words, record_words, texts, verb_of};
+ghost use Rattle.rip_words.specs.Command.{Reads, command_reading, command_words, input_words, is_name, last_option, no_word, npar_option, offset_in, offset_of, offset_option, option_words, out_words, record_words, sums_words, texts, verb_of, verb_words};
 
 use rip_outside::Name;
 use std::alloc::Global;
@@ -45,6 +45,10 @@ pub enum Command {
         to: Name,
         offset: Option<i32>,
     },
+    /// Prints the ids of the rip INPUT and the sums of its tracks.
+    Sums {
+        input: Name,
+    },
 }
 
 /// Why the words are no command.
@@ -56,7 +60,7 @@ pub enum WordsFail {
     Oom,
 }
 
-// What a command's own word asks for.
+// What the own word of a command with INPUT and REC asks for.
 #[derive(Clone, Copy)]
 enum Verb {
     Register,
@@ -73,32 +77,6 @@ fn is_name(word: &[u8]) -> bool
         [] => false,
         [first, ..] => *first != b'-',
     }
-}
-
-// A cue sheet's name ends in `.cue`, in any case of its letters.
-fn is_sheet(word: &[u8]) -> bool
-    ensures { result ≡ is_sheet word.now }
-{
-    let tail = &word[word.len().saturating_sub(4)..];
-    tail.eq_ignore_ascii_case(b".cue")
-}
-
-fn is_folder(word: &[u8]) -> bool
-    ensures { result ≡ is_folder word.now }
-{
-    word.ends_with(b"/")
-}
-
-fn is_input(word: &[u8]) -> bool
-    ensures { result ≡ is_input word.now }
-{
-    is_name(word) && !is_sheet(word)
-}
-
-fn is_record(word: &[u8]) -> bool
-    ensures { result ≡ is_record word.now }
-{
-    is_name(word) && !is_folder(word)
 }
 
 fn name_of(alloc: Global, word: &String) -> Result<Name, WordsFail>
@@ -275,7 +253,7 @@ fn read_record(
     match words {
         [] => Err(WordsFail::Usage { word: 2 }),
         [rec, rest @ ..] => {
-            if !is_record(rec.as_bytes()) {
+            if !is_name(rec.as_bytes()) {
                 return Err(WordsFail::Usage { word: 2 });
             }
             read_command(alloc, verb, input, rec, rest)
@@ -291,7 +269,7 @@ fn read_input(alloc: Global, verb: Verb, words: &[String]) -> Result<Command, Wo
     match words {
         [] => Err(WordsFail::Usage { word: 1 }),
         [input, rest @ ..] => {
-            if !is_input(input.as_bytes()) {
+            if !is_name(input.as_bytes()) {
                 return Err(WordsFail::Usage { word: 1 });
             }
             read_record(alloc, verb, input, rest)
@@ -299,7 +277,35 @@ fn read_input(alloc: Global, verb: Verb, words: &[String]) -> Result<Command, Wo
     }
 }
 
-// What a command's own word asks for.
+// The command, where no word stands from this index on.
+fn no_word(at: u32, command: Command, words: &[String]) -> Result<Command, WordsFail>
+    ensures value { Reads result (no_word at command (texts words.now)) }
+    ensures kept { IfOk result (λ read. read ≡ command) }
+{
+    match words {
+        [] => Ok(command),
+        [_, ..] => Err(WordsFail::Usage { word: at }),
+    }
+}
+
+// The words of `sums`: INPUT.
+fn read_sums(alloc: Global, words: &[String]) -> Result<Command, WordsFail>
+    ensures value { Reads result (sums_words (texts words.now)) }
+    ensures range { IfOk result (λ read. IfSome (offset_in read) IsOffset) }
+{
+    match words {
+        [] => Err(WordsFail::Usage { word: 1 }),
+        [input, rest @ ..] => {
+            if !is_name(input.as_bytes()) {
+                return Err(WordsFail::Usage { word: 1 });
+            }
+            let input = name_of(alloc, input)?;
+            no_word(2, Command::Sums { input }, rest)
+        }
+    }
+}
+
+// What the own word of a command with INPUT and REC asks for.
 fn verb_of(word: &str) -> Option<Verb>
     ensures { result ≡ verb_of word.now }
 {
@@ -312,6 +318,17 @@ fn verb_of(word: &str) -> Option<Verb>
     }
 }
 
+// The words of a command on a record.
+fn read_verb(alloc: Global, word: &str, words: &[String]) -> Result<Command, WordsFail>
+    ensures value { Reads result (verb_words (verb_of word.now) (texts words.now)) }
+    ensures range { IfOk result (λ read. IfSome (offset_in read) IsOffset) }
+{
+    match verb_of(word) {
+        Some(verb) => read_input(alloc, verb, words),
+        None => Err(WordsFail::Usage { word: 0 }),
+    }
+}
+
 /// The command that the words are. `Usage` comes exactly where the grammar refuses, with the index of the first
 /// word that breaks a rule, or the number of words where one is missing. An offset that was read is from -5,879 to 5,879.
 pub fn read_words(alloc: Global, words: &[String]) -> Result<Command, WordsFail>
@@ -320,9 +337,9 @@ pub fn read_words(alloc: Global, words: &[String]) -> Result<Command, WordsFail>
 {
     match words {
         [] => Err(WordsFail::Usage { word: 0 }),
-        [first, rest @ ..] => match verb_of(first.as_str()) {
-            Some(verb) => read_input(alloc, verb, rest),
-            None => Err(WordsFail::Usage { word: 0 }),
+        [first, rest @ ..] => match first.as_str() {
+            "sums" => read_sums(alloc, rest),
+            word => read_verb(alloc, word, rest),
         },
     }
 }

@@ -1,16 +1,8 @@
-//! Worked cases of the crates together: runs over a folder and an output in memory, WAV files of many kinds, and
-//! images that are read in pieces. With them come the words and the files that the cases are made of.
+//! Worked cases of `run`, over a folder and an output in memory.
 #![tactic(auto)]
 
 #[cfg(test)]
-mod ids;
-#[cfg(test)]
-mod layouts;
-mod made;
-#[cfg(test)]
-mod pieces;
-#[cfg(test)]
-mod records;
+mod cues;
 #[cfg(test)]
 mod repairs;
 #[cfg(test)]
@@ -18,12 +10,8 @@ mod rips;
 #[cfg(test)]
 mod runs;
 #[cfg(test)]
-mod sheets;
-#[cfg(test)]
-mod slides;
+mod sums;
 #[cfg(test)]
 mod verifies;
 #[cfg(test)]
 mod wavs;
-
-pub use made::{ramp, wav};

@@ -26,6 +26,7 @@ pieces-preserved g c =
       edge_position = omega (arith, c.absorb-in-pieces.ensures.position);
       same = search rules;
       later = search rules;
+      taken = omega (arith, read, c.in-Ok.ensures.taken, c.pieces.invariant.taken);
       stands = (
         s.0 ++ c.read.new.buf,
         c.absorb.ensures.stands s.0 s.1,

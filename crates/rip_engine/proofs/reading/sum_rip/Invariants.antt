@@ -1,4 +1,4 @@
-use Rattle.std.proofs.Common.{◌≡◌, ◌-◌, ◌≤◌, ℕ, List, take, vec_len}
+use Rattle.std.proofs.Common.{◌≡◌, ◌+◌, ◌-◌, ◌*◌, ◌≤◌, ℕ, List, take, vec_len}
 use Rattle.std.specs.Prelude.{IfSome}
 use Rattle.rip_outside.specs.Causes.{NoneFell}
 use Rattle.syndrome_stream.specs.Registers.{StandsFor}
@@ -17,6 +17,7 @@ invariant-pieces g l = record {
   edge_position : l.edges.position ≡ l.at;
   same : g.S.Shelf.held l.shelf ≡ g.S.Shelf.held l.fn.shelf;
   later : NoneFell (g.S.Shelf.faults l.fn.shelf) (g.S.Shelf.faults l.shelf);
+  taken : g.S.Shelf.taken l.shelf ≤ g.S.Shelf.taken l.fn.shelf + 2 * l.at;
   stands : (y : List ℕ) × StandsFor g.row.P l.registers y × EdgesStandFor l.edges y × IfSome (g.S.Shelf.held l.fn.shelf) (λ files. y ≡ take l.at (joined_words l.image files));
 }
 

@@ -2,7 +2,7 @@ use Rattle.rip_outside.specs.Seen.{seen}
 use Rattle.rip_words.specs.Command.{command_reading, texts}
 use Rattle.rip_engine.proofs.StoredLaws.{stored_by}
 use Rattle.rip_engine.proofs.Headline.{finds_damaged_of, repairs_of}
-use Rattle.rip_engine.proofs.Ending.{decides, read_has_cause, write_has_cause, sink_has_cause, memory_keeps, nothing_written, completes}
+use Rattle.rip_engine.proofs.Ending.{decides, read_has_cause, write_has_cause, sink_has_cause, memory_keeps, nothing_written, takes, completes}
 use Rattle.rip_engine.proofs.running.run.Goals as goal
 
 pub returns-clause-outcome : goal.returns-clause-outcome
@@ -52,3 +52,7 @@ returns-clause-finds_damaged g c = finds_damaged_of (command_reading (texts c.ar
     (completes (command_reading (texts c.args.words.now)) (seen g.F.Shelf g.K.Sink c.args.files.now c.args.out.now) (seen g.F.Shelf g.K.Sink c.perform-performed.new.shelf c.conclude.new.out) c.conclude.result c.perform-performed.result
     (record { leaves = c.perform-performed.ensures.leaves; cause = c.perform-performed.ensures.cause; reads = c.perform-performed.ensures.reads; concluded = c.conclude.ensures }))
     (returns-clause-repairs g c)
+
+pub returns-clause-bytes_taken : goal.returns-clause-bytes_taken
+returns-clause-bytes_taken g c = takes (command_reading (texts c.args.words.now)) (seen g.F.Shelf g.K.Sink c.args.files.now c.args.out.now) (seen g.F.Shelf g.K.Sink c.perform-performed.new.shelf c.conclude.new.out) c.conclude.result c.perform-performed.result
+    c.perform-performed.ensures.cause c.perform-performed.ensures.taken

@@ -1,6 +1,0 @@
-use Rattle.std.proofs.Common.{◌≡◌, take, string_bytes}
-use Rattle.rip_engine.specs.Texts.{offsets_text}
-use Rattle.rip_engine.proofs.texts.offsets_lines.Given as goal
-
-abbrev pub invariant-loop-at : goal.invariant-loop-at
-invariant-loop-at l = string_bytes l.text ≡ offsets_text (take l.at-index l.found)

@@ -1,7 +1,0 @@
-use Rattle.std.proofs.Common.{◌≡◌, ◌∙◌, append_assoc, string_bytes}
-use Rattle.std.proofs.lemmas.Result.{IfOk-weaker}
-use Rattle.rip_engine.specs.Texts.{wav_line}
-use Rattle.rip_engine.proofs.texts.wav_line.Goals as goal
-
-pub returns : goal.returns
-returns c = IfOk-weaker c.format.result _ (λ made. string_bytes made ≡ wav_line c.args.name.now c.args.kind.now c.args.at) (λ made so. so ∙ simp append_assoc) c.format.ensures.ok
