@@ -22,7 +22,7 @@ sys.path.append("/usr/lib/python3/dist-packages")
 
 LAYOUTS = 400
 TRACKS = 150
-DISCS = 40
+DISCS = 200
 SECTOR = 588
 
 
@@ -219,19 +219,32 @@ def lines_of(layout, words):
     return lines
 
 
+def sheet_of(layout, second):
+    """A sheet of one file, or of two of which the second begins with the track number `second`."""
+    sheet, base = ['FILE "1.wav" WAVE'], 0
+    for t, start in enumerate(layout.starts, 1):
+        if t == second:
+            sheet, base = sheet + ['FILE "2.wav" WAVE'], start
+        sheet.append(f"TRACK {t:02} AUDIO")
+        if t == 1 and layout.pregap > 0:
+            sheet.append(f"PREGAP {time_of(layout.pregap)}")
+        sheet.append(f"INDEX 01 {time_of(start - base)}")
+    return "\n".join(sheet) + "\n"
+
+
 def check_program(program, chance):
     with tempfile.TemporaryDirectory() as folder:
         for _ in range(DISCS):
             sectors = chance.randint(30, 60)
             tracks = chance.randint(1, 5)
             starts = sorted(chance.sample(range(sectors - 1), tracks))
-            layout = Layout(0, starts, sectors)
+            layout = Layout(chance.choice([0, chance.randint(1, 20_000)]), starts, sectors)
             words = made_words(chance, sectors * SECTOR)
-            sheet = ['FILE "audio.wav" WAVE']
-            for t, start in enumerate(starts, 1):
-                sheet += [f"TRACK {t:02} AUDIO", f"INDEX 01 {time_of(start)}"]
-            Path(folder, "audio.wav").write_bytes(wav(words))
-            Path(folder, "disc.cue").write_text("\n".join(sheet) + "\n")
+            second = chance.randint(2, tracks) if tracks > 1 and chance.random() < 0.5 else 0
+            cut = 2 * SECTOR * starts[second - 1] if second else len(words)
+            Path(folder, "1.wav").write_bytes(wav(words[:cut]))
+            Path(folder, "2.wav").write_bytes(wav(words[cut:]))
+            Path(folder, "disc.cue").write_text(sheet_of(layout, second))
             run = subprocess.run([program, "sums", "disc.cue"], cwd=folder, capture_output=True, text=True, check=True)
             expect(run.stdout.splitlines(), lines_of(layout, words), f"lines of {layout.__dict__}")
     print(f"{program}: the same lines of {DISCS} discs")
