@@ -1,0 +1,3 @@
+pub mod CoveredLaws
+pub mod LateLaws
+pub mod MadeLaws

@@ -1,0 +1,3 @@
+pub mod Compared
+pub mod Damaged
+pub mod Generated

@@ -1,0 +1,21 @@
+// Whether a mended rip has a disc's words.
+ghost use Rattle.std.specs.Prelude.{◌≡◌, ◌*◌, ◌↔◌, IsTrue, length};
+ghost use Rattle.column_map.specs.Columns.{IsOffset, per_column};
+ghost use Rattle.trial_disc.specs.Compared.{SameCovered};
+
+use column_map::Shape;
+
+// The words of ten sectors.
+const STRIDE: usize = 11_760;
+
+/// Whether a mended rip at the offset `d` has the disc's word at each place of a column. It takes no memory.
+pub fn same_covered(shape: Shape, d: i32, mended: &[u16], disc: &[u16]) -> bool
+    requires mended_whole { length mended.now ≡ 1176 * shape }
+    requires disc_whole { length disc.now ≡ 1176 * shape }
+    requires offset { IsOffset d }
+    ensures { IsTrue result ↔ SameCovered (per_column shape) d mended.now disc.now }
+{
+    let count = shape.per_column() as usize * STRIDE;
+    let first = shape.start_of(d, 0) as usize;
+    mended[first..first + count] == disc[STRIDE..STRIDE + count]
+}
