@@ -10,3 +10,5 @@ pub mod StoredLaws
 pub mod TakingLaws
 pub mod OpeningLaws
 pub mod SummingLaws
+pub mod TrialLaws
+pub mod QuietLaws

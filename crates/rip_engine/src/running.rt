@@ -5,12 +5,13 @@ ghost use Rattle.rip_inputs.specs.Opening.{lengths_of};
 ghost use Rattle.rip_words.specs.Command.{texts, command_reading};
 ghost use Rattle.rip_engine.specs.Steps.{StopsWithCause, Takes};
 ghost use Rattle.rip_engine.specs.Outcome.{IsOutcomeOf, Leaves, read_by, written_by};
-ghost use Rattle.rip_engine.specs.Run.{FaultsOfCommand, Reported, Concluded, OutcomeDecides, ReadFaultHasCause, WriteFaultHasCause, SinkFaultHasCause, WantOfMemoryKeeps, NothingWritten, BytesTaken, Completes, StoresParity, RepairIsExact, DamagedDiscIsFound};
+ghost use Rattle.rip_engine.specs.Run.{FaultsOfCommand, Reported, Concluded, OutcomeDecides, ReadFaultHasCause, WriteFaultHasCause, SinkFaultHasCause, WantOfMemoryKeeps, NothingWritten, BytesTaken, Completes, StoresParity, RepairIsExact, DamagedDiscIsFound, IsTrialRead, TrialLeavesFiles};
 
 use crate::registering::register;
 use crate::repairing::repair;
 use crate::steps::Stop;
 use crate::summing::sums;
+use crate::trying::trial;
 use crate::verifying::{offsets, verify};
 use rip_outside::{Shelf, Sink, Text};
 use rip_report::{Status, refusal_text};
@@ -22,6 +23,7 @@ fn perform<S: Shelf>(alloc: Global, words: &[String], shelf: &mut S) -> Result<T
     ensures leaves { IfSome (S.held shelf.old) (λ files. Leaves (IsOutcomeOf (command_reading (texts words.now)) files) (written_by (command_reading (texts words.now)) files) files result (S.held shelf.new)) }
     ensures cause { StopsWithCause (S.faults shelf.old) (S.faults shelf.new) result }
     ensures reads { FaultsOfCommand (command_reading (texts words.now)) result }
+    ensures untouched { IsTrialRead (command_reading (texts words.now)) → shelf.new ≡ shelf.old }
     ensures taken { IfSome (S.held shelf.old) (λ files. Takes (3 * lengths_of (read_by (command_reading (texts words.now)) files) files) result (S.taken shelf.old) (S.taken shelf.new)) }
 {
     match read_words(alloc, words) {
@@ -50,6 +52,14 @@ fn perform<S: Shelf>(alloc: Global, words: &[String], shelf: &mut S) -> Result<T
             offset,
         ),
         Ok(Command::Sums { input }) => sums(alloc, shelf, input.as_str()),
+        Ok(
+            Command::Trial {
+                sectors,
+                seed,
+                shift,
+                hits,
+            },
+        ) => Ok(trial(alloc, sectors, seed, shift, hits)?),
         Err(WordsFail::Usage { word }) => Err(Stop::Refused(Status::Usage { word })),
         Err(WordsFail::Oom) => Err(Stop::Oom),
     }
@@ -98,6 +108,7 @@ pub fn run<F: Shelf, K: Sink>(alloc: Global, words: &[String], files: &mut F, ou
     ensures want_of_memory { WantOfMemoryKeeps (command_reading (texts words.now)) (seen F.Shelf K.Sink files.old out.old) (seen F.Shelf K.Sink files.new out.new) result }
     ensures nothing_written { NothingWritten (command_reading (texts words.now)) (seen F.Shelf K.Sink files.old out.old) (seen F.Shelf K.Sink files.new out.new) result }
     ensures bytes_taken { BytesTaken (command_reading (texts words.now)) (seen F.Shelf K.Sink files.old out.old) (seen F.Shelf K.Sink files.new out.new) }
+    ensures trial_leaves_files { TrialLeavesFiles (command_reading (texts words.now)) (seen F.Shelf K.Sink files.old out.old) (seen F.Shelf K.Sink files.new out.new) }
     ensures completes { Completes (command_reading (texts words.now)) (seen F.Shelf K.Sink files.old out.old) (seen F.Shelf K.Sink files.new out.new) result }
 {
     let performed = perform(alloc, words, files);

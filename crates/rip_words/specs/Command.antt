@@ -1,12 +1,13 @@
 -- The words of the command line.
-use Rattle.std.specs.Prelude.{None, ◌≡◌, ℕ, ◌+◌, ◌==◌, ◌&&◌, nat_eq, nat_le, Bool, false, not, List, [], ◌∷◌, ◌++◌, length, drop, Result, Ok, Err, codes, map, String, if◌then◌else◌, Option, Some, unwrap_or, ℤ}
+use Rattle.std.specs.Prelude.{None, ◌≡◌, ℕ, ◌+◌, ◌==◌, ◌&&◌, nat_eq, nat_le, ◌≤◌, Bool, false, not, List, [], ◌∷◌, ◌++◌, length, drop, Result, Ok, Err, codes, map, String, if◌then◌else◌, Option, Some, unwrap_or, ℤ}
 use Rattle.std.specs.List.{starts_with}
 use Rattle.std.specs.Str.{all_ascii_digits, bytes_eq}
 use Rattle.std.specs.Str.Parse.{digits_value, signed_digits_value, without_leading_sign}
 use Rattle.std.specs.String.{string_bytes}
 use Rattle.std.specs.declared.alloc.Global.{Global}
+use Rattle.column_map.specs.Columns.{IsOffset}
 use Rattle.rip_words.specs.declared.Command.{Command}
-use Rattle.rip_words.specs.declared.Command.TheVariants.{Register, Verify, Offsets, Repair, Sums}
+use Rattle.rip_words.specs.declared.Command.TheVariants.{Register, Verify, Offsets, Repair, Sums, Trial}
 use Rattle.rip_words.specs.declared.Npar.{Npar}
 use Rattle.rip_words.specs.declared.Npar.TheVariants.{Four, Eight, Sixteen}
 use Rattle.rip_words.specs.declared.Verb.{Verb}
@@ -61,6 +62,29 @@ abbrev pub option_words : {A : Type 0} → (List ℕ → Option A) → ℕ → L
 option_words read at [] = Ok None
 option_words read at (option ∷ rest) = last_option at (read option) rest
 
+-- ---- the numbers of a trial
+
+-- a number of one to so many decimal digits, from `least` to `most`
+abbrev pub is_number : ℕ → ℕ → ℕ → List ℕ → Bool
+is_number digits least most word =
+    all_ascii_digits word && nat_le 1 (length word) && nat_le (length word) digits && nat_le least (digits_value 10 word) && nat_le (digits_value 10 word) most
+
+-- a number as it is written: its digits, with no sign
+abbrev pub number_of : ℕ → ℕ → ℕ → List ℕ → Option ℕ
+number_of digits least most word = if is_number digits least most word then Some (digits_value 10 word) else None
+
+-- the sectors: from 30 to 9,000
+abbrev pub sectors_of : List ℕ → Option ℕ
+sectors_of = number_of 4 30 9000
+
+-- the seed: any that fits 32 bits
+abbrev pub seed_of : List ℕ → Option ℕ
+seed_of = number_of 10 0 4294967295
+
+-- the hits: at most 58,800
+abbrev pub hits_of : List ℕ → Option ℕ
+hits_of = number_of 5 0 58800
+
 -- ---- the commands on a record
 
 -- the command with the value of its option
@@ -112,10 +136,25 @@ abbrev pub no_word : ℕ → Command → List (List ℕ) → Result Command ℕ
 no_word at command [] = Ok command
 no_word at command (more ∷ rest) = Err at
 
+-- what comes of the value of the word at this index, if it has one
+abbrev pub with_value : {A : Type 0} → ℕ → (A → Result Command ℕ) → Option A → Result Command ℕ
+with_value at next None = Err at
+with_value at next (Some value) = next value
+
+-- the words from this index on: the first has a value by `read`, and `next` says what comes of it and the words after it
+abbrev pub first_word : {A : Type 0} → ℕ → (List ℕ → Option A) → (A → List (List ℕ) → Result Command ℕ) → List (List ℕ) → Result Command ℕ
+first_word at read next [] = Err at
+first_word at read next (word ∷ rest) = with_value at (λ value. next value rest) (read word)
+
 -- the words after `sums`: INPUT
 abbrev pub sums_words : List (List ℕ) → Result Command ℕ
 sums_words [] = Err 1
 sums_words (input ∷ rest) = if is_name input then no_word 2 (Sums input) rest else Err 1
+
+-- the words after `trial`: SECTORS, SEED, SHIFT and HITS
+abbrev pub trial_words : List (List ℕ) → Result Command ℕ
+trial_words =
+    first_word 1 sectors_of (λ sectors. first_word 2 seed_of (λ seed. first_word 3 offset_of (λ shift. first_word 4 hits_of (λ hits. no_word 5 (Trial sectors seed shift hits)))))
 
 -- ---- all commands
 
@@ -124,6 +163,7 @@ abbrev pub command_reading : List (List ℕ) → Result Command ℕ
 command_reading [] = Err 0
 command_reading (first ∷ rest) =
     if bytes_eq first (codes "sums") then sums_words rest
+    else if bytes_eq first (codes "trial") then trial_words rest
     else verb_words (verb_of first) rest
 
 -- what is read is the meaning of the words
@@ -139,6 +179,23 @@ offset_in (Verify input rec offset) = offset
 offset_in (Offsets input rec) = None
 offset_in (Repair input rec to offset) = offset
 offset_in (Sums input) = None
+offset_in (Trial sectors seed shift hits) = None
+
+-- a trial has from 30 to 9,000 sectors, an offset as its shift, and at most 58,800 hits
+pub record IsTrial (sectors : ℕ) (shift : ℤ) (hits : ℕ) : Type 0 where
+  pub least_sectors : 30 ≤ sectors
+  pub most_sectors : sectors ≤ 9000
+  pub shift_offset : IsOffset shift
+  pub most_hits : hits ≤ 58800
+
+-- the numbers of a command that is a trial
+abbrev pub TrialIsInRange : Command → Type 0
+TrialIsInRange (Register input rec npar) = Unit {0}
+TrialIsInRange (Verify input rec offset) = Unit {0}
+TrialIsInRange (Offsets input rec) = Unit {0}
+TrialIsInRange (Repair input rec to offset) = Unit {0}
+TrialIsInRange (Sums input) = Unit {0}
+TrialIsInRange (Trial sectors seed shift hits) = IsTrial sectors shift hits
 
 -- the name under which an output is made before it gets its own
 abbrev pub part_of : List ℕ → List ℕ

@@ -1,11 +1,11 @@
 //! The words of the command line: the command that they are, or the index of the first that breaks a rule.
 #![tactic(auto)]
 
-ghost use Rattle.std.specs.Prelude.{◌≡◌, ◌<◌, ◌^◌, ◌+◌, IfOk, IfSome, IsOkUnless};
+ghost use Rattle.std.specs.Prelude.{◌≡◌, ◌<◌, ◌≤◌, ◌^◌, ◌+◌, IfOk, IfSome, IsOkUnless};
 ghost use Rattle.std.specs.Str.Parse.{without_leading_sign};
 ghost use Rattle.std.specs.String.{string_bytes};
 ghost use Rattle.column_map.specs.Columns.{IsOffset};
-ghost use Rattle.rip_words.specs.Command.{Reads, command_reading, command_words, input_words, is_name, last_option, no_word, npar_option, offset_in, offset_of, offset_option, option_words, out_words, record_words, sums_words, texts, verb_of, verb_words};
+ghost use Rattle.rip_words.specs.Command.{Reads, TrialIsInRange, command_reading, command_words, hits_of, input_words, is_name, last_option, no_word, npar_option, number_of, offset_in, offset_of, offset_option, option_words, out_words, record_words, sectors_of, seed_of, sums_words, texts, trial_words, verb_of};
 
 use rip_outside::Name;
 use std::alloc::Global;
@@ -48,6 +48,14 @@ pub enum Command {
     /// Prints the ids of the rip INPUT and the sums of its tracks.
     Sums {
         input: Name,
+    },
+    /// Makes an image of so many sectors from a seed, and of it a rip that is `shift` samples late and has so many words
+    /// made wrong, and mends that rip.
+    Trial {
+        sectors: u32,
+        seed: u32,
+        shift: i32,
+        hits: u32,
     },
 }
 
@@ -138,6 +146,45 @@ fn offset_option(word: &str) -> Option<i32>
     offset_of(word.strip_prefix("--offset=")?)
 }
 
+// A number as it is written: in one to `digits` decimal digits, from `least` to `most`.
+fn number_of(word: &str, digits: usize, least: u32, most: u32) -> Option<u32>
+    ensures value { result ≡ number_of digits least most word.now }
+    ensures least { IfSome result (λ number. least ≤ number) }
+    ensures most { IfSome result (λ number. number ≤ most) }
+{
+    if word.len() > digits || word.starts_with("+") {
+        return None;
+    }
+    match word.parse::<u32>() {
+        Ok(number) if number >= least && number <= most => Some(number),
+        _ => None,
+    }
+}
+
+// SECTORS of a trial.
+fn sectors_of(word: &str) -> Option<u32>
+    ensures value { result ≡ sectors_of word.now }
+    ensures least { IfSome result (λ sectors. 30 ≤ sectors) }
+    ensures most { IfSome result (λ sectors. sectors ≤ 9000) }
+{
+    number_of(word, 4, 30, 9000)
+}
+
+// SEED of a trial: any number of 32 bits.
+fn seed_of(word: &str) -> Option<u32>
+    ensures { result ≡ seed_of word.now }
+{
+    number_of(word, 10, 0, u32::MAX)
+}
+
+// HITS of a trial: at most five words in each column.
+fn hits_of(word: &str) -> Option<u32>
+    ensures value { result ≡ hits_of word.now }
+    ensures most { IfSome result (λ hits. hits ≤ 58800) }
+{
+    number_of(word, 5, 0, 58_800)
+}
+
 // The option that stands at this index, once it was read: nothing may stand after it.
 fn last_option<A: Copy>(at: u32, option: Option<A>, rest: &[String]) -> Result<Option<A>, WordsFail>
     requires { at + 1 < 2 ^ 32 }
@@ -183,6 +230,7 @@ fn read_out(
 ) -> Result<Command, WordsFail>
     ensures value { Reads result (out_words (string_bytes input.now) (string_bytes rec.now) (texts words.now)) }
     ensures range { IfOk result (λ read. IfSome (offset_in read) IsOffset) }
+    ensures trial { IfOk result TrialIsInRange }
 {
     match words {
         [] => Err(WordsFail::Usage { word: 3 }),
@@ -211,6 +259,7 @@ fn read_command(
 ) -> Result<Command, WordsFail>
     ensures value { Reads result (command_words verb (string_bytes input.now) (string_bytes rec.now) (texts words.now)) }
     ensures range { IfOk result (λ read. IfSome (offset_in read) IsOffset) }
+    ensures trial { IfOk result TrialIsInRange }
 {
     match verb {
         Verb::Register => {
@@ -249,6 +298,7 @@ fn read_record(
 ) -> Result<Command, WordsFail>
     ensures value { Reads result (record_words verb (string_bytes input.now) (texts words.now)) }
     ensures range { IfOk result (λ read. IfSome (offset_in read) IsOffset) }
+    ensures trial { IfOk result TrialIsInRange }
 {
     match words {
         [] => Err(WordsFail::Usage { word: 2 }),
@@ -265,6 +315,7 @@ fn read_record(
 fn read_input(alloc: Global, verb: Verb, words: &[String]) -> Result<Command, WordsFail>
     ensures value { Reads result (input_words verb (texts words.now)) }
     ensures range { IfOk result (λ read. IfSome (offset_in read) IsOffset) }
+    ensures trial { IfOk result TrialIsInRange }
 {
     match words {
         [] => Err(WordsFail::Usage { word: 1 }),
@@ -292,6 +343,7 @@ fn no_word(at: u32, command: Command, words: &[String]) -> Result<Command, Words
 fn read_sums(alloc: Global, words: &[String]) -> Result<Command, WordsFail>
     ensures value { Reads result (sums_words (texts words.now)) }
     ensures range { IfOk result (λ read. IfSome (offset_in read) IsOffset) }
+    ensures trial { IfOk result TrialIsInRange }
 {
     match words {
         [] => Err(WordsFail::Usage { word: 1 }),
@@ -303,6 +355,48 @@ fn read_sums(alloc: Global, words: &[String]) -> Result<Command, WordsFail>
             no_word(2, Command::Sums { input }, rest)
         }
     }
+}
+
+// The words of `trial`: SECTORS, SEED, SHIFT and HITS.
+fn read_trial(words: &[String]) -> Result<Command, WordsFail>
+    ensures value { Reads result (trial_words (texts words.now)) }
+    ensures range { IfOk result (λ read. IfSome (offset_in read) IsOffset) }
+    ensures trial { IfOk result TrialIsInRange }
+{
+    let [sectors, words @ ..] = words else {
+        return Err(WordsFail::Usage { word: 1 });
+    };
+    let Some(sectors) = sectors_of(sectors.as_str()) else {
+        return Err(WordsFail::Usage { word: 1 });
+    };
+    let [seed, words @ ..] = words else {
+        return Err(WordsFail::Usage { word: 2 });
+    };
+    let Some(seed) = seed_of(seed.as_str()) else {
+        return Err(WordsFail::Usage { word: 2 });
+    };
+    let [shift, words @ ..] = words else {
+        return Err(WordsFail::Usage { word: 3 });
+    };
+    let Some(shift) = offset_of(shift.as_str()) else {
+        return Err(WordsFail::Usage { word: 3 });
+    };
+    let [hits, words @ ..] = words else {
+        return Err(WordsFail::Usage { word: 4 });
+    };
+    let Some(hits) = hits_of(hits.as_str()) else {
+        return Err(WordsFail::Usage { word: 4 });
+    };
+    no_word(
+        5,
+        Command::Trial {
+            sectors,
+            seed,
+            shift,
+            hits,
+        },
+        words,
+    )
 }
 
 // What the own word of a command with INPUT and REC asks for.
@@ -318,28 +412,23 @@ fn verb_of(word: &str) -> Option<Verb>
     }
 }
 
-// The words of a command on a record.
-fn read_verb(alloc: Global, word: &str, words: &[String]) -> Result<Command, WordsFail>
-    ensures value { Reads result (verb_words (verb_of word.now) (texts words.now)) }
-    ensures range { IfOk result (λ read. IfSome (offset_in read) IsOffset) }
-{
-    match verb_of(word) {
-        Some(verb) => read_input(alloc, verb, words),
-        None => Err(WordsFail::Usage { word: 0 }),
-    }
-}
-
 /// The command that the words are. `Usage` comes exactly where the grammar refuses, with the index of the first
-/// word that breaks a rule, or the number of words where one is missing. An offset that was read is from -5,879 to 5,879.
+/// word that breaks a rule, or the number of words where one is missing. An offset that was read is from -5,879 to 5,879,
+/// and so is the shift of a trial; its sectors are from 30 to 9,000, and its hits at most 58,800.
 pub fn read_words(alloc: Global, words: &[String]) -> Result<Command, WordsFail>
     ensures value { Reads result (command_reading (texts words.now)) }
     ensures offsets { IfOk result (λ read. IfSome (offset_in read) IsOffset) }
+    ensures trials { IfOk result TrialIsInRange }
 {
     match words {
         [] => Err(WordsFail::Usage { word: 0 }),
         [first, rest @ ..] => match first.as_str() {
             "sums" => read_sums(alloc, rest),
-            word => read_verb(alloc, word, rest),
+            "trial" => read_trial(rest),
+            word => match verb_of(word) {
+                Some(verb) => read_input(alloc, verb, rest),
+                None => Err(WordsFail::Usage { word: 0 }),
+            },
         },
     }
 }

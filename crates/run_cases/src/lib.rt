@@ -12,6 +12,8 @@ mod runs;
 #[cfg(test)]
 mod sums;
 #[cfg(test)]
+mod trials;
+#[cfg(test)]
 mod verifies;
 #[cfg(test)]
 mod wavs;

@@ -1,6 +1,9 @@
-use Rattle.std.proofs.Common.{◌≡◌, Ok, rules}
-use Rattle.rip_words.specs.Command.{command_reading, texts}
-use Rattle.rip_words.specs.declared.Command.TheVariants.{Register, Verify, Offsets, Repair, Sums}
+use Rattle.std.proofs.Common.{◌≡◌, Ok, ℤ, refl, rules, subst}
+use Rattle.rip_outside.proofs.FilesLaws.{if_told}
+use Rattle.rip_words.specs.Command.{IsTrial, command_reading, texts}
+use Rattle.rip_words.specs.declared.Command.TheVariants.{Register, Verify, Offsets, Repair, Sums, Trial}
+use Rattle.rip_engine.specs.Trial.{IsTrialText}
+use Rattle.rip_engine.proofs.PickLaws.{offset_kept}
 use Rattle.rip_engine.proofs.running.perform.Goals as goal
 
 pub returns-in-Ok-Register-clause-leaves : goal.returns-in-Ok-Register-clause-leaves
@@ -52,3 +55,12 @@ pub returns-in-Ok-Sums-clause-taken : goal.returns-in-Ok-Sums-clause-taken
 returns-in-Ok-Sums-clause-taken g c =
     let read : command_reading (texts c.args.words.now) ≡ Ok (Sums c.as_str-in-Ok-Sums.result.now) = search rules in
     rw read c.sums.ensures.taken
+
+pub returns-in_ok-trial-in-Ok-Trial-clause-leaves : goal.returns-in_ok-trial-in-Ok-Trial-clause-leaves
+returns-in_ok-trial-in-Ok-Trial-clause-leaves g c =
+    let asked = c.in-Ok-Trial in
+    let read : command_reading (texts c.args.words.now) ≡ Ok (Trial asked.sectors asked.seed asked.shift asked.hits) = search rules in
+    let range : IsTrial asked.sectors asked.shift asked.hits = search rules in
+    let Of : ℤ → Type 0 = λ d. IsTrialText asked.sectors asked.seed d asked.hits c.in_ok-trial-in-Ok-Trial.field-0 in
+    let told : Of asked.shift = subst Of (offset_kept asked.shift range.shift_offset) c.in_ok-trial-in-Ok-Trial.ensures in
+    rw read (if_told (g.S.Shelf.held c.args.shelf.now) _ (λ files same. (files, same, (range, (c.in_ok-trial-in-Ok-Trial.field-0, told, refl)))))

@@ -1,3 +1,4 @@
+use Rattle.std.proofs.Common.{ap}
 use Rattle.rip_outside.specs.Seen.{seen}
 use Rattle.rip_words.specs.Command.{command_reading, texts}
 use Rattle.rip_engine.proofs.StoredLaws.{stored_by}
@@ -56,3 +57,8 @@ returns-clause-finds_damaged g c = finds_damaged_of (command_reading (texts c.ar
 pub returns-clause-bytes_taken : goal.returns-clause-bytes_taken
 returns-clause-bytes_taken g c = takes (command_reading (texts c.args.words.now)) (seen g.F.Shelf g.K.Sink c.args.files.now c.args.out.now) (seen g.F.Shelf g.K.Sink c.perform-performed.new.shelf c.conclude.new.out) c.conclude.result c.perform-performed.result
     c.perform-performed.ensures.cause c.perform-performed.ensures.taken
+
+pub returns-clause-trial_leaves_files : goal.returns-clause-trial_leaves_files
+returns-clause-trial_leaves_files g c = λ trial.
+    let same = c.perform-performed.ensures.untouched trial in
+    (ap g.F.Shelf.held same, ap g.F.Shelf.faults same, ap g.F.Shelf.taken same)
