@@ -1,6 +1,6 @@
 """Random error patterns in one column, with the syndromes that plain sums give.
 
-Prints crates/error_values/src/table_rows.rt: for P = 4, 8, 16 and 32 rows of
+Prints crates/decoding_cases/src/column_rows.rt: for P = 4, 8, 16 and 32 rows of
     c, number of errors (65,535: no list of at most P / 2 errors has these syndromes), P / 2 places, P / 2 flips, P syndromes.
 Half of the patterns have at most P / 2 errors, and half have one more. That no list within the radius has the
 syndromes of the latter is decided by solving linear equations for each number of errors, and not by registers.

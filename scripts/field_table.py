@@ -1,6 +1,6 @@
 """Products and inverses of the field of 65,536 words by plain shift and reduce.
 
-Prints the rows of crates/gf16_field/src/table_rows.rt: 256 pairs with their products, and 64 words with their inverses.
+Prints the rows of crates/decoding_cases/src/field_rows.rt: 256 pairs with their products, and 64 words with their inverses.
 The words come from a linear congruential generator; the inverse is looked for among all words.
 """
 

@@ -5,4 +5,4 @@ mod candidate;
 mod shape;
 
 pub use candidate::{Candidate, CandidateList, Fix};
-pub use shape::Shape;
+pub use shape::{STRIDE, Shape};

@@ -4,8 +4,8 @@ ghost use Rattle.column_map.specs.Columns.{IsSectorCount, IsOffset, IsWordAt, Is
 
 use std::marker::Model;
 
-// The words of ten sectors: a stride, and so many columns.
-const STRIDE: u32 = 11_760;
+/// A stride: the words of ten sectors, and so many columns.
+pub const STRIDE: u32 = 11_760;
 
 /// The size of an image that can be registered, seen as its number of sectors, which is from 30 to 445,500.
 ///

@@ -3,7 +3,7 @@
 
 mod splitting;
 
-ghost use Rattle.std.specs.Prelude.{◌≡◌, ◌≢◌, ℕ, ◌+◌, ◌<◌, ◌≤◌, ◌↔◌, ◌⊎◌, IfSome, IsNone, slice_index};
+ghost use Rattle.std.specs.Prelude.{◌≡◌, ◌≢◌, ℕ, ◌+◌, ◌<◌, ◌≤◌, ◌↔◌, ◌⊎◌, false, IfSome, IsNone, IsTrue, slice_index};
 ghost use Rattle.gf16_field.specs.Xor.{◌⊕◌, xor_below};
 ghost use Rattle.gf16_field.specs.Gf16.{◌⊗◌, alpha_power};
 ghost use Rattle.gf16_poly.specs.Register.{AllWords, Generates, locator, with_one};
@@ -210,6 +210,20 @@ fn next_root<const P: usize>(
     place
 }
 
+/// False only where `roots` answers None for a column of any length: the register is longer than `P / 2`, or its
+/// polynomial has fewer roots than its length anywhere in the field. The places aren't walked. It takes no memory.
+pub fn may_have_roots<const P: usize>(field: &Tables, r: &Register<P>) -> bool
+    requires { P ≤ 32 }
+    ensures half { IsTrue result → r.now.len + r.now.len ≤ P }
+    ensures fewer { result ≡ false → (P < r.now.len + r.now.len) ⊎ ((c n : ℕ) (k : ℕ → ℕ) → c ≤ 65535 → AreRoots r.now.len (λ i. slice_index r.now.coef i) c n k → n < r.now.len) }
+{
+    if 2 * r.len > P {
+        return false;
+    }
+    are_words(&r.coef);
+    r.len < 2 || may_split(field, r)
+}
+
 /// The places of a column of `c` words, rising, at which the register's polynomial is 0: those `k` where it is 0 at
 /// the inverse of `α^(c - 1 - k)`. None exactly where there are fewer than the register's length, or where that is
 /// above `P / 2`. It takes no memory.
@@ -223,13 +237,10 @@ pub fn roots<const P: usize>(field: &Tables, r: &Register<P>, c: u32) -> Option<
     ensures all { IfSome result (λ places. HasAllRoots r.now.len (λ i. slice_index r.now.coef i) c places.count (λ i. slice_index places.k i)) }
     ensures none { IsNone result ↔ ((P < r.now.len + r.now.len) ⊎ ((n : ℕ) (k : ℕ → ℕ) → AreRoots r.now.len (λ i. slice_index r.now.coef i) c n k → n < r.now.len)) }
 {
-    if 2 * r.len > P {
+    if !may_have_roots(field, r) {
         return None;
     }
     are_words(&r.coef);
-    if r.len > 1 && !may_split(field, r) {
-        return None;
-    }
     let mut k = [0; P];
     let mut terms = terms_at(field, &r.coef, r.len, pow_alpha(65_536 - c));
     let mut count = 0;
@@ -245,77 +256,4 @@ pub fn roots<const P: usize>(field: &Tables, r: &Register<P>, c: u32) -> Option<
         place += 1;
     }
     Some(Places { count, k })
-}
-
-#[cfg(test)]
-mod tests {
-    use super::*;
-    use gf16_poly::{eval, generates, times};
-    use std::process::Abort;
-    use std::test::Fail;
-
-    fn assert_located(rt: &impl Abort, field: &Tables, s: [u16; 4], len: usize, coef: [u16; 4]) {
-        let register = locate(field, s);
-        assert!(rt; register.len == len);
-        assert!(rt; register.coef == coef);
-    }
-
-    #[test]
-    fn registers_of_four_words(rt: HostRuntime) -> Result<(), Fail> {
-        let field = Tables::new(rt.alloc())?;
-        assert_located(&rt, &field, [0, 0, 0, 0], 0, [0, 0, 0, 0]);
-        assert_located(&rt, &field, [1, 1, 1, 1], 1, [1, 0, 0, 0]);
-        assert_located(&rt, &field, [1, 2, 4, 8], 1, [2, 0, 0, 0]);
-        assert_located(&rt, &field, [0, 3, 5, 9], 2, [3, 2, 0, 0]);
-        assert_located(&rt, &field, [1, 0, 0, 0], 1, [0, 0, 0, 0]);
-        assert!(rt; locate(&field, [0u16, 0, 0, 1]).len == 4);
-        Ok(())
-    }
-
-    fn assert_one_place<const P: usize>(rt: &impl Abort, places: Option<Places<P>>, place: u16)
-        requires { 0 < P }
-    {
-        if let Some(found) = places {
-            assert!(rt; found.count == 1);
-            assert!(rt; found.k[0] == place);
-        } else {
-            assert!(rt; false);
-        }
-    }
-
-    fn assert_last_word<const P: usize>(rt: &impl Abort, field: &Tables)
-        requires some { 0 < P }
-        requires size { P ≤ 32 }
-    {
-        let ones = [1u16; P];
-        let register = locate(field, ones);
-        assert!(rt; generates(field, &register, &ones));
-        assert!(rt; eval(field, &register, Gf(1)) == Gf(0));
-        assert!(rt; times(field, &ones, &register)[0] == 1);
-        assert_one_place(rt, roots(field, &register, 44_548), 44_547);
-    }
-
-    #[test]
-    fn one_flip_at_each_size(rt: HostRuntime) -> Result<(), Fail> {
-        let field = Tables::new(rt.alloc())?;
-        assert_last_word::<4>(&rt, &field);
-        assert_last_word::<8>(&rt, &field);
-        assert_last_word::<16>(&rt, &field);
-        assert_last_word::<32>(&rt, &field);
-        Ok(())
-    }
-
-    #[test]
-    fn roots_of_two_coefficients(rt: HostRuntime) -> Result<(), Fail> {
-        let field = Tables::new(rt.alloc())?;
-        let register = locate(&field, [0u16, 3, 5, 9]);
-        assert!(rt; roots(&field, &register, 1).is_none());
-        if let Some(places) = roots(&field, &register, 3) {
-            assert!(rt; places.count == 2);
-            assert!(rt; places.k[0] == 1 && places.k[1] == 2);
-        } else {
-            assert!(rt; false);
-        }
-        Ok(())
-    }
 }

@@ -1,10 +1,7 @@
 //! One column decoded: the errors that made its syndromes.
 #![tactic(auto)]
 
-#[cfg(test)]
-mod table_rows;
-
-ghost use Rattle.std.specs.Prelude.{◌≡◌, ◌≢◌, ℕ, ◌+◌, ◌-◌, ◌<◌, ◌≤◌, ◌↔◌, IfSome, IsNone, length, slice_index};
+ghost use Rattle.std.specs.Prelude.{◌≡◌, ◌≢◌, ℕ, ◌+◌, ◌-◌, ◌<◌, ◌≤◌, ◌↔◌, IfSome, IsNone, IsTrue, length, slice_index};
 ghost use Rattle.gf16_field.specs.Column.{column_sum};
 ghost use Rattle.gf16_field.specs.Gf16.{◌⊗◌};
 ghost use Rattle.gf16_field.specs.Xor.{◌⊕◌};
@@ -15,7 +12,7 @@ ghost use Rattle.error_values.specs.Column.{nonzero_below};
 ghost use Rattle.error_values.specs.Division.{dividend_at, divisor_at};
 ghost use Rattle.error_values.specs.ErrorList.{IsErrorList};
 
-use error_locator::{Places, locate, roots};
+use error_locator::{Places, locate, may_have_roots, roots};
 use gf16_field::{Gf, Tables, add, pow_alpha};
 use gf16_poly::{Register, are_words};
 
@@ -71,6 +68,17 @@ fn flips<const P: usize>(
     flip
 }
 
+/// False only where `decode_column` answers None for a column of any length: no list of at most `P / 2` errors has the
+/// syndromes `s`. It looks at no place, and so is quick where there is none. It takes no memory.
+pub fn may_decode<const P: usize>(field: &Tables, s: [u16; P]) -> bool
+    requires { P ≤ 32 }
+    ensures { (c e : ℕ) (k flip : ℕ → ℕ) → c ≤ 65535 → IsErrorList P c (λ i. slice_index s.entry i) e k flip → IsTrue result }
+{
+    let register = locate(field, s);
+    are_words(&register.coef);
+    may_have_roots(field, &register)
+}
+
 /// The list of at most `P / 2` errors in a column of `c` words whose syndromes are `s`: it is the only one, and None
 /// exactly where there is none. It takes no memory.
 pub fn decode_column<const P: usize>(field: &Tables, s: [u16; P], c: u32) -> Option<Errors<P>>
@@ -98,94 +106,3 @@ pub fn laws()
     ensures { (count c : ℕ) (v w : ℕ → ℕ) → c ≤ 65535 → AllWords v → AllWords w → ((m : ℕ) → m < count → column_sum m c v ≡ column_sum m c w)
         → nonzero_below c (λ k. v k ⊕ w k) ≤ count → (k : ℕ) → k < c → v k ≡ w k }
 {}
-
-#[cfg(test)]
-mod tests {
-    use super::table_rows::{ROWS_4, ROWS_8, ROWS_16, ROWS_32};
-    use super::*;
-    use std::process::Abort;
-    use std::test::Fail;
-
-    fn assert_errors<const P: usize>(
-        rt: &impl Abort,
-        found: Option<Errors<P>>,
-        places: &[u16],
-        flips: &[u16],
-    ) {
-        if let Some(errors) = found {
-            assert!(rt; &errors.k[..errors.count] == places);
-            assert!(rt; &errors.flip[..errors.count] == flips);
-        } else {
-            assert!(rt; false);
-        }
-    }
-
-    #[test]
-    fn columns_of_one_and_three_words(rt: HostRuntime) -> Result<(), Fail> {
-        let field = Tables::new(rt.alloc())?;
-        assert_errors(&rt, decode_column(&field, [0u16, 0, 0, 0], 3), &[], &[]);
-        assert_errors(&rt, decode_column(&field, [1u16, 1, 1, 1], 3), &[2], &[1]);
-        assert_errors(
-            &rt,
-            decode_column(&field, [0u16, 3, 5, 9], 3),
-            &[1, 2],
-            &[1, 1],
-        );
-        assert_errors(&rt, decode_column(&field, [1u16, 1, 1, 1], 1), &[0], &[1]);
-        assert!(rt; decode_column(&field, [1u16, 0, 0, 0], 3).is_none());
-        assert!(rt; decode_column(&field, [0u16, 0, 0, 1], 3).is_none());
-        assert!(rt; decode_column(&field, [0u16, 3, 5, 9], 1).is_none());
-        Ok(())
-    }
-
-    /// The `P` words of a row from its `at`-th on.
-    fn words_from<const P: usize>(row: &[u16], at: usize) -> [u16; P]
-        requires { at + P ≤ length row.now }
-    {
-        let mut words = [0u16; P];
-        for i in 0..P {
-            words[i] = row[at + i];
-        }
-        words
-    }
-
-    /// Decodes the syndromes of a row: `c`, the number of errors or 65,535, `P / 2` places, `P / 2` flips, `P` syndromes.
-    fn assert_row<const P: usize>(rt: &impl Abort, field: &Tables, row: &[u16])
-        requires { P ≤ 32 }
-    {
-        assert!(rt; row.len() == 2 + 2 * P);
-        let c = row[0] as u32;
-        assert!(rt; 0 < c && c <= 44_548);
-        let found = decode_column::<P>(field, words_from(row, 2 + P), c);
-        let count = row[1] as usize;
-        if count == 65_535 {
-            assert!(rt; found.is_none());
-        } else {
-            assert!(rt; count <= P / 2);
-            assert_errors(
-                rt,
-                found,
-                &row[2..2 + count],
-                &row[2 + P / 2..2 + P / 2 + count],
-            );
-        }
-    }
-
-    #[test]
-    fn patterns_within_the_radius_and_past_it(rt: HostRuntime) -> Result<(), Fail> {
-        let field = Tables::new(rt.alloc())?;
-        for row in &ROWS_4 {
-            assert_row::<4>(&rt, &field, row);
-        }
-        for row in &ROWS_8 {
-            assert_row::<8>(&rt, &field, row);
-        }
-        for row in &ROWS_16 {
-            assert_row::<16>(&rt, &field, row);
-        }
-        for row in &ROWS_32 {
-            assert_row::<32>(&rt, &field, row);
-        }
-        Ok(())
-    }
-}

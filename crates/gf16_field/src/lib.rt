@@ -3,8 +3,6 @@
 //! exclusive or, and α is 2.
 #![tactic(auto)]
 
-#[cfg(test)]
-mod table_rows;
 mod tables;
 
 ghost use Rattle.std.specs.Prelude.{◌≡◌, ◌≢◌, ℕ, ◌+◌, ◌*◌, ◌^◌, ◌<◌, ◌≤◌, ◌↔◌, IsSome, IsNone, IfSome, IfNone};
@@ -109,40 +107,3 @@ pub fn laws()
     ensures squares { (a b : ℕ) → a < 2 ^ 16 → b < 2 ^ 16 → (a ⊕ b) ⊗ (a ⊕ b) ≡ a ⊗ a ⊕ b ⊗ b }
     ensures frobenius { (a : ℕ) → a < 2 ^ 16 → power a 65536 ≡ a }
 {}
-
-#[cfg(test)]
-mod tests {
-    use super::table_rows::{INVERSES, PRODUCTS};
-    use super::*;
-    use std::process::Abort;
-    use std::test::Fail;
-
-    #[test]
-    fn worked_cases(rt: HostRuntime) {
-        assert!(rt; inverse(Gf(0)) == None);
-        assert!(rt; pow_alpha(16) == Gf(0x100B));
-        assert!(rt; pow_alpha(65_535) == Gf(1));
-    }
-
-    fn assert_products(rt: &impl Abort, tables: &Tables, rows: &[(u16, u16, u16)]) {
-        for row in rows {
-            assert!(rt; mul(Gf(row.0), Gf(row.1)) == Gf(row.2));
-            assert!(rt; tables.mul(Gf(row.0), Gf(row.1)) == Gf(row.2));
-        }
-    }
-
-    fn assert_inverses(rt: &impl Abort, tables: &Tables, rows: &[(u16, u16)]) {
-        for row in rows {
-            assert!(rt; inverse(Gf(row.0)) == Some(Gf(row.1)));
-            assert!(rt; tables.inverse(Gf(row.0)) == Some(Gf(row.1)));
-        }
-    }
-
-    #[test]
-    fn products_and_inverses_by_shifts(rt: HostRuntime) -> Result<(), Fail> {
-        let tables = Tables::new(rt.alloc())?;
-        assert_products(&rt, &tables, &PRODUCTS);
-        assert_inverses(&rt, &tables, &INVERSES);
-        Ok(())
-    }
-}

@@ -76,25 +76,3 @@ pub fn times<const P: usize>(field: &Tables, s: &[u16; P], r: &Register<P>) -> [
     }
     product
 }
-
-#[cfg(test)]
-mod tests {
-    use super::*;
-    use std::test::Fail;
-
-    #[test]
-    fn a_register_of_two_coefficients(rt: HostRuntime) -> Result<(), Fail> {
-        let field = Tables::new(rt.alloc())?;
-        let register = Register {
-            len: 2,
-            coef: [3u16, 2, 0, 0],
-        };
-        let words = [0u16, 3, 5, 9];
-        assert!(rt; generates(&field, &register, &words));
-        assert!(rt; !generates(&field, &register, &[0u16, 3, 5, 8]));
-        assert!(rt; eval(&field, &register, Gf(1)) == Gf(0));
-        assert!(rt; eval(&field, &register, Gf(2)) == Gf(15));
-        assert!(rt; times(&field, &words, &register) == [0u16, 3, 0, 0]);
-        Ok(())
-    }
-}

@@ -2,7 +2,9 @@
 ghost use Rattle.std.specs.Prelude.{◌≤◌, All, IsTrue};
 
 use cue_sheet::{Cue, read_cue};
-use disc_toc::{LayoutFail, LayoutKind, layout_of, one_track};
+use disc_toc::{
+    Differs, LayoutFail, LayoutKind, LayoutPart, first_difference, layout_of, one_track,
+};
 use std::alloc::Global;
 use std::test::Fail;
 
@@ -145,5 +147,38 @@ fn files_of_a_sheet_are_joined(rt: HostRuntime) -> Result<(), Fail> {
     assert!(rt; cue.files.as_slice().len() == 1);
     let joined = layout_of(rt.alloc(), &cue, &[100 * SECTOR])?;
     assert!(rt; joined == one_track(rt.alloc(), 100 * SECTOR)?);
+    Ok(())
+}
+
+// The words of one file, and why they are no layout, if so.
+const ONE_FILE: [(u64, Option<LayoutKind>); 6] = [
+    (0, Some(LayoutKind::IndexPastEnd { track: 1 })),
+    (1175, Some(LayoutKind::NotWholeSectors { file: 1 })),
+    (1176, None),
+    (1178, Some(LayoutKind::NotWholeSectors { file: 1 })),
+    (445_500 * SECTOR, None),
+    (
+        445_501 * SECTOR,
+        Some(LayoutKind::TooLong { sectors: 445_501 }),
+    ),
+];
+
+#[test]
+fn one_file_is_one_track(rt: HostRuntime) -> Result<(), Fail> {
+    for (words, kind) in ONE_FILE {
+        let wanted = kind.map(|kind| LayoutFail::Refused { kind });
+        assert_eq!(rt; one_track(rt.alloc(), words).err(), wanted, "at {words}");
+    }
+    let layout = one_track(rt.alloc(), 100 * SECTOR)?;
+    assert_eq!(rt; (layout.pregap, layout.sectors), (0, 100));
+    assert_eq!(rt; layout.starts.as_slice(), [0].as_slice());
+    let longer = one_track(rt.alloc(), 101 * SECTOR)?;
+    let differs = Differs {
+        part: LayoutPart::Sectors,
+        rip: 101,
+        kept: 100,
+    };
+    assert_eq!(rt; first_difference(&longer, &layout), Some(differs));
+    assert_eq!(rt; longer == layout, false);
     Ok(())
 }

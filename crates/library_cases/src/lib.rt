@@ -15,8 +15,6 @@ mod records;
 #[cfg(test)]
 mod sheets;
 #[cfg(test)]
-mod slides;
-#[cfg(test)]
 mod sums;
 #[cfg(test)]
 mod texts;

@@ -10,5 +10,5 @@ pub use edges::Edges;
 pub use slides::Slides;
 pub use steps::{down, up};
 
-// The words of ten sectors: a stride, and so many columns.
-const STRIDE: usize = 11_760;
+// A stride, in words.
+const STRIDE: usize = column_map::STRIDE as usize;

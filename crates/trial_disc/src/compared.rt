@@ -5,8 +5,8 @@ ghost use Rattle.trial_disc.specs.Compared.{SameCovered};
 
 use column_map::Shape;
 
-// The words of ten sectors.
-const STRIDE: usize = 11_760;
+// A stride, in words.
+const STRIDE: usize = column_map::STRIDE as usize;
 
 /// Whether a mended rip at the offset `d` has the disc's word at each place of a column. It takes no memory.
 pub fn same_covered(shape: Shape, d: i32, mended: &[u16], disc: &[u16]) -> bool

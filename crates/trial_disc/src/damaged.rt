@@ -3,12 +3,9 @@ ghost use Rattle.std.specs.Prelude.{◌≡◌, ◌*◌, ◌^◌, ◌<◌, ◌≤
 ghost use Rattle.column_map.specs.Columns.{IsOffset, per_column, stride};
 ghost use Rattle.trial_disc.specs.Damaged.{damaged, hit_column, hit_number, late, word_at};
 
-use column_map::Shape;
+use column_map::{STRIDE, Shape};
 use rip_outside::Oom;
 use std::alloc::Global;
-
-// The number of columns.
-const COLUMNS: u32 = 11_760;
 
 // The word at a place, or 0 where there is none.
 fn word_at(words: &[u16], at: i64) -> u16
@@ -40,7 +37,7 @@ fn hit_column(hit: u32) -> u32
     ensures value { result ≡ hit_column hit }
     ensures column { result < stride }
 {
-    hit * 4099 % COLUMNS
+    hit * 4099 % STRIDE
 }
 
 // The number of the word that a hit strikes in its column, where columns have so many words.
@@ -50,7 +47,7 @@ fn hit_number(count: u32, hit: u32) -> u32
     ensures value { result ≡ hit_number count hit }
     ensures number { result < count }
 {
-    (hit % COLUMNS + hit / COLUMNS) % count
+    (hit % STRIDE + hit / STRIDE) % count
 }
 
 // Strikes a rip, so many samples late, with so many hits.

@@ -4,8 +4,6 @@
 mod compared;
 mod damaged;
 mod generated;
-#[cfg(test)]
-mod tests;
 
 pub use compared::same_covered;
 pub use damaged::made_rip;

@@ -1,13 +1,10 @@
 use Rattle.std.proofs.Common.{◌≡◌, ◌<◌, true, false, inl, inr, refl, get_or, set, length-set, ◌∙◌, arith}
 use Rattle.error_locator.proofs.RootWalk.{not_fewer, set_kept, set_last, walk_all, walk_found, walk_none, walk_on, walk_root}
-use Rattle.error_locator.proofs.Split.{fewer_roots}
 use Rattle.error_locator.proofs.roots.Goals as goal
 
-pub returns-then-not-may_split-clause-none : goal.returns-then-not-may_split-clause-none
-returns-then-not-may_split-clause-none g c = (
-  λ e. inr
-      (fewer_roots c.args.r.now.len (λ i. get_or c.args.r.now.coef i 0) c.args.c c.are_words.ensures (omega arith)
-      (λ x split. let yes : c.may_split.result ≡ true = c.may_split.ensures x split in let no : c.may_split.result ≡ false = c.if-not-may_split.true in cc)),
+pub returns-then-not-may_have_roots-clause-none : goal.returns-then-not-may_have_roots-clause-none
+returns-then-not-may_have_roots-clause-none g c = (
+  λ e. elim (c.may_have_roots.ensures.fewer c.if-not-may_have_roots.true) [ inl long ↦ inl long | inr fewer ↦ inr (λ n k. fewer c.args.c n k (omega arith)) ],
   λ e. refl,
 )
 
@@ -45,7 +42,7 @@ returns-clause-none g c = (
   λ e. absurd (let wrong : true ≡ false = e in cc),
   λ e. absurd
       (elim e [
-        | inl long ↦ omega (arith, c.if-r.false)
+        | inl long ↦ omega (arith, c.may_have_roots.ensures.half c.if-not-may_have_roots.false)
         | inr fewer ↦
             not_fewer c.args.r.now.len (λ i. get_or c.args.r.now.coef i 0) c.args.c c.loop-count.count (λ i. get_or c.loop-count.k i 0) (omega (arith, c.loop-count-test.false, c.loop-count.invariant.walk.few))
             (walk_found c.args.r.now.len (λ i. get_or c.args.r.now.coef i 0) c.args.c c.loop-count.place c.loop-count.count (λ i. get_or c.loop-count.k i 0) (λ i. get_or c.loop-count.terms i 0) c.are_words.ensures (omega arith) c.loop-count.invariant.walk

@@ -4,7 +4,6 @@ use Rattle.std.specs.FinMap.{empty, get, get-empty}
 use Rattle.rip_outside.specs.Files.{Files, bytes_at}
 use Rattle.rip_outside.proofs.FilesLaws.{get-insert_same, get-insert_other}
 use Rattle.rip_memory.specs.Filling.{after_fill}
-use Rattle.image_mender.specs.declared.image.Part.{Part}
 use Rattle.image_mender.specs.Joined.{AreInFiles, IsInFile}
 use Rattle.library_cases.specs.Parts.{two_parts}
 use Rattle.library_cases.proofs.pieces.shelf_of_parts.Goals as goal

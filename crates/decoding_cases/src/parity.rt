@@ -1,11 +1,12 @@
-// Parities that were worked out by hand.
+// Worked cases of parity: by hand, of an image that comes in pieces.
 ghost use Rattle.std.specs.Prelude.{◌≡◌, ◌*◌, ◌≤◌, IfOk, length, vec_len};
 
-use crate::{Registers, Table};
 use column_map::Shape;
+use made_discs::ramp;
 use rip_outside::Oom;
 use std::alloc::{AllocError, Global};
 use std::test::Fail;
+use syndrome_stream::{Registers, Table};
 
 // An image of zeros but for the word 1 at a place.
 fn one_word(alloc: Global, count: usize, place: usize) -> Result<Vec<u16>, AllocError>
@@ -14,17 +15,6 @@ fn one_word(alloc: Global, count: usize, place: usize) -> Result<Vec<u16>, Alloc
     let mut words = Vec::new(alloc);
     for i in 0..count {
         words.push(u16::from(i == place))?;
-    }
-    Ok(words)
-}
-
-// An image whose sample n has n mod 65536 as both of its words.
-fn ramp(alloc: Global, count: usize) -> Result<Vec<u16>, AllocError>
-    ensures { IfOk result (λ words. vec_len words ≡ count) }
-{
-    let mut words = Vec::new(alloc);
-    for i in 0..count {
-        words.push((i / 2 % 65_536) as u16)?;
     }
     Ok(words)
 }
@@ -56,7 +46,7 @@ fn worked_parities(rt: HostRuntime) -> Result<(), Fail> {
     assert_eq!(rt; wide.covered(0, 105_840), None);
 
     let short = Shape::of(30).expect(&rt, "a shape");
-    let table = parity::<8>(alloc, short, &ramp(alloc, 35_280)?)?;
+    let table = parity::<8>(alloc, short, &ramp(alloc, 17_640)?)?;
     for j in 0..11_760u32 {
         assert_eq!(rt; table.row(j), [(5_880 + j / 2) as u16; 8]);
     }
