@@ -18,7 +18,7 @@ fn word_at(words: &[u16], at: i64) -> u16
 }
 
 // The words of a rip that is so many samples late.
-pub fn late_words(alloc: Global, disc: &[u16], shift: i32) -> Result<Vec<u16>, Oom>
+fn late_words(alloc: Global, disc: &[u16], shift: i32) -> Result<Vec<u16>, Oom>
     requires { length disc.now < 2 ^ 32 }
     ensures { IfOk result (λ words. words.items ≡ late disc.now shift) }
 {

@@ -15,7 +15,7 @@ const ADDEND: u128 = 11;
 const MODULUS: u128 = 1 << 48;
 
 // The generator's number after this one.
-pub fn next(state: u64) -> u64
+fn next(state: u64) -> u64
     requires { state < 2 ^ 48 }
     ensures { result ≡ next state }
 {
