@@ -56,8 +56,8 @@ def solve(rows):
     return [row[-1] for row in rows]
 
 
-def within_radius(parity, c, words):
-    """Whether some list of at most parity / 2 errors has these syndromes: a matrix for each number of errors."""
+def errors_within(parity, c, words):
+    """The only list of at most parity / 2 errors with these syndromes, or None: a matrix for each number of errors."""
     for count in range(parity // 2 + 1):
         # the locators X are the roots of y^count + a_(count-1) y^(count-1) + .. + a_0, which every window of words meets
         equations = [words[i : i + count] + [words[i + count]] for i in range(count)]
@@ -76,9 +76,12 @@ def within_radius(parity, c, words):
         if len(places) != count:
             continue
         flips = solve([[EXP[m * (c - 1 - k) % 65535] for k in places] + [words[m]] for m in range(count)])
-        if flips is not None and all(flips) and syndromes(parity, c, list(zip(places, flips))) == words:
-            return True
-    return False
+        if flips is None or not all(flips):
+            continue
+        errors = list(zip(places, flips))
+        if syndromes(parity, c, errors) == words:
+            return errors
+    return None
 
 
 def pattern(source, parity, count):
@@ -99,7 +102,7 @@ def main():
             c, errors = pattern(source, parity, source.randint(half // 2, half) if inside else half + 1)
             words = syndromes(parity, c, errors)
             if not inside:
-                if within_radius(parity, c, words):
+                if errors_within(parity, c, words) is not None:
                     continue
                 errors = []
             padding = [0] * (half - len(errors))
@@ -114,4 +117,5 @@ def main():
         print("];")
 
 
-main()
+if __name__ == "__main__":
+    main()

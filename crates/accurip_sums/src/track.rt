@@ -1,7 +1,7 @@
 // The sums of a track whose words come one after another.
-ghost use Rattle.std.specs.Prelude.{◌≡◌, ◌+◌, ◌*◌, ◌%◌, ◌<◌, ◌≤◌, ◌++◌, ◌∷◌, [], List, ℕ, length};
+ghost use Rattle.std.specs.Prelude.{◌≡◌, ◌+◌, ◌*◌, ◌%◌, ◌<◌, ◌≤◌, ◌++◌, ◌∷◌, [], List, ℕ, false, true, length};
 ghost use Rattle.accurip_sums.specs.Track.{counts, track_sums};
-ghost use Rattle.accurip_sums.specs.StandsFor.{StandsFor};
+ghost use Rattle.accurip_sums.specs.StandsFor.{TrackStandsFor};
 
 use crate::pair::Sums;
 use std::marker::Model;
@@ -18,24 +18,15 @@ pub struct TrackSum {
 }
 
 impl Model for TrackSum {
-    ghost use Rattle.accurip_sums.specs.StandsFor.{Kept};
+    ghost use Rattle.accurip_sums.specs.StandsFor.{KeptTrack};
 
-    ghost Value = { Kept };
+    ghost Value = { KeptTrack };
 
     ghost view = { λ sum. record { first = sum.first; last = sum.last; samples = sum.samples; position = sum.position; sums = sum.sums } };
 }
 
 // How many samples don't count at the end of the last track, and the number of the first that counts in the first.
-const MARGIN: u64 = 2940;
-
-// Whether the sample of this number, counted from 1, counts.
-fn is_counted(first: bool, last: bool, samples: u32, number: u32) -> bool
-    ensures { result ≡ counts first last samples number }
-{
-    let early = first && u64::from(number) < MARGIN;
-    let late = last && u64::from(samples) < u64::from(number) + MARGIN;
-    !early && !late
-}
+const MARGIN: u32 = 2940;
 
 // A sample's value, 65,536 for each one of the right word, times its number.
 fn product(number: u32, left: u16, right: u16) -> u64
@@ -51,7 +42,7 @@ impl TrackSum {
         ensures first { result.first ≡ first }
         ensures last { result.last ≡ last }
         ensures samples { result.samples ≡ samples }
-        ensures stands { StandsFor result [] }
+        ensures stands { TrackStandsFor result [] }
     {
         TrackSum {
             first,
@@ -62,17 +53,44 @@ impl TrackSum {
         }
     }
 
-    // Takes the next sample in.
-    fn absorb_sample(&mut self, left: u16, right: u16)
-        requires { self.old.position < self.old.samples }
+    // Of the next `count` samples those that count, from the first number to below the second: they stand in a row.
+    fn counted(&self, count: u32) -> (u32, u32)
+        requires { self.now.position + count ≤ self.now.samples }
+        ensures rising { result.0 ≤ result.1 }
+        ensures inside { result.1 ≤ count }
+        ensures before { (i : ℕ) → i < result.0 → counts self.now.first self.now.last self.now.samples (self.now.position + i + 1) ≡ false }
+        ensures between { (i : ℕ) → result.0 ≤ i → i < result.1 → counts self.now.first self.now.last self.now.samples (self.now.position + i + 1) ≡ true }
+        ensures after { (i : ℕ) → result.1 ≤ i → i < count → counts self.now.first self.now.last self.now.samples (self.now.position + i + 1) ≡ false }
+    {
+        let mut start = 0;
+        if self.first {
+            start = (MARGIN - 1).saturating_sub(self.position).min(count);
+        }
+        let mut end = count;
+        if self.last {
+            end = self
+                .samples
+                .saturating_sub(self.position)
+                .saturating_sub(MARGIN)
+                .min(count)
+                .max(start);
+        }
+        (start, end)
+    }
+
+    // Takes the next sample in. Where it counts or not is known, so that no test stands in a loop.
+    fn absorb_sample(&mut self, left: u16, right: u16, is_counted: bool)
+        requires room { self.old.position < self.old.samples }
+        requires known { counts self.old.first self.old.last self.old.samples (self.old.position + 1) ≡ is_counted }
         ensures first { self.new.first ≡ self.old.first }
         ensures last { self.new.last ≡ self.old.last }
         ensures samples { self.new.samples ≡ self.old.samples }
         ensures position { self.new.position ≡ self.old.position + 1 }
-        ensures stands { (y : List ℕ) → StandsFor self.old y → StandsFor self.new (y ++ left ∷ right ∷ []) }
+        ensures stands { (y : List ℕ) → TrackStandsFor self.old y → TrackStandsFor self.new (y ++ left ∷ right ∷ []) }
     {
+        prove!(self.position < self.samples);
         self.position += 1;
-        if is_counted(self.first, self.last, self.samples, self.position) {
+        if is_counted {
             self.sums = self.sums.plus(product(self.position, left, right));
         }
     }
@@ -86,17 +104,26 @@ impl TrackSum {
         ensures last { self.new.last ≡ self.old.last }
         ensures samples { self.new.samples ≡ self.old.samples }
         ensures position { 2 * self.new.position ≡ 2 * self.old.position + length words.now }
-        ensures stands { (y : List ℕ) → StandsFor self.old y → StandsFor self.new (y ++ words.now) }
+        ensures stands { (y : List ℕ) → TrackStandsFor self.old y → TrackStandsFor self.new (y ++ words.now) }
     {
-        for i in 0..words.len() / 2 {
-            self.absorb_sample(words[2 * i], words[2 * i + 1]);
+        let count = words.len() / 2;
+        prove!(count <= self.samples as usize);
+        let (start, end) = self.counted(count as u32);
+        'early: for i in 0..start as usize {
+            self.absorb_sample(words[2 * i], words[2 * i + 1], false);
+        }
+        'middle: for i in start as usize..end as usize {
+            self.absorb_sample(words[2 * i], words[2 * i + 1], true);
+        }
+        'late: for i in end as usize..count {
+            self.absorb_sample(words[2 * i], words[2 * i + 1], false);
         }
     }
 
     /// The track's sums, once all its samples have come. It takes no memory.
     pub fn finish(&self) -> Sums
         requires { self.now.position ≡ self.now.samples }
-        ensures { (y : List ℕ) → StandsFor self.now y → result ≡ track_sums self.now.first self.now.last y }
+        ensures { (y : List ℕ) → TrackStandsFor self.now y → result ≡ track_sums self.now.first self.now.last y }
     {
         self.sums
     }

@@ -1,13 +1,14 @@
 -- The columns of an image, and where a rip at an offset has their words.
 use Rattle.std.specs.Prelude.{◌≡◌, ℕ, ◌+◌, ◌-◌, ◌*◌, ◌/◌, ◌<◌, ◌≤◌, List, slice_index, suc, ℤ, pos, negsuc, ◌≤ℤ◌}
+use Rattle.rip_basics.specs.Disc.{most_sectors}
 
 -- a stride: the words of 10 sectors, and the number of columns
 abbrev pub stride : ℕ
 stride = 11760
 
--- A disc that can be registered has from 30 to 445,500 sectors.
+-- a disc that can be registered has from 30 sectors to as many as a disc may have
 abbrev pub IsSectorCount : ℕ → Type 0
-IsSectorCount s = (30 ≤ s) × (s ≤ 445500)
+IsSectorCount s = (30 ≤ s) × (s ≤ most_sectors)
 
 -- the number of words of each column: the strides of an image of s sectors, without the first and the last
 abbrev pub per_column : ℕ → ℕ
@@ -17,6 +18,10 @@ per_column s = s / 10 - 2
 pub record IsOffset (d : ℤ) : Type 0 where
   pub least : negsuc 5878 ≤ℤ d
   pub most : d ≤ℤ pos 5879
+
+-- how many offsets that is
+abbrev pub offsets : ℕ
+offsets = 11759
 
 -- the place i + 2 * d, at which a rip at the offset d has the registered word i
 abbrev pub moved : ℤ → ℕ → ℕ

@@ -1,5 +1,6 @@
 // The size of an image, and the places of its columns' words.
 ghost use Rattle.std.specs.Prelude.{◌≡◌, ℕ, ◌+◌, ◌-◌, ◌*◌, ◌/◌, ◌<◌, ◌≤◌, ◌↔◌, List, IfSome, IsNone};
+ghost use Rattle.rip_basics.specs.Disc.{most_sectors};
 ghost use Rattle.column_map.specs.Columns.{IsSectorCount, IsOffset, IsWordAt, IsCovered, per_column, place, stride};
 
 use std::marker::Model;
@@ -32,7 +33,7 @@ impl Model for Shape {
 impl Shape {
     /// The shape of an image of so many sectors, or None exactly where there are fewer than 30.
     pub fn of(sectors: u32) -> Option<Shape>
-        requires { sectors ≤ 445500 }
+        requires { sectors ≤ most_sectors }
         ensures none { IsNone result ↔ (sectors < 30) }
         ensures shape { IfSome result (λ shape. shape ≡ sectors) }
     {
@@ -54,7 +55,7 @@ impl Shape {
     /// The number of words of each column.
     pub fn per_column(&self) -> u32
         ensures value { result ≡ per_column self.now }
-        ensures range { (1 ≤ result) × (result ≤ 44548) }
+        ensures range { (1 ≤ result) × (result ≤ per_column most_sectors) }
     {
         self.sectors / 10 - 2
     }

@@ -2,7 +2,7 @@
 use Rattle.std.proofs.Common.{◌≡◌, ℕ, ◌+◌, List, [], ◌∷◌, length, arith, Ok, Err, refl, ◌∙◌}
 use Rattle.cue_sheet.specs.declared.fail.CueKind.{CueKind}
 use Rattle.cue_sheet.specs.Lines.{lines_of, without_mark}
-use Rattle.cue_sheet.specs.Reading.{State, begun, ended, following, line_reading, lines_reading, sheet_reading}
+use Rattle.cue_sheet.specs.Reading.{State, nothing_read, sheet_end, after_line, line_reading, lines_reading, sheet_reading}
 
 no_lines : lines_of [] ≡ []
 unfolding lines_of
@@ -20,13 +20,13 @@ pub refused_line : (line : ℕ) (state : State) (kind : CueKind) (first : List �
 unfolding lines_reading
 refused_line line state kind first text later split e = rw (split, e) refl
 
-pub sheet_read : (text : List ℕ) → sheet_reading text ≡ lines_reading 1 begun (lines_of (without_mark text))
+pub sheet_read : (text : List ℕ) → sheet_reading text ≡ lines_reading 1 nothing_read (lines_of (without_mark text))
 unfolding sheet_reading
 sheet_read text = refl
 
 -- the end of a sheet, when nothing is left
-pub at_end : (text rest : List ℕ) (line : ℕ) (state : State) → length rest ≡ 0 → lines_reading 1 begun (lines_of (without_mark text)) ≡ lines_reading line state (lines_of rest)
-    → sheet_reading text ≡ following 0 (ended state) Ok
+pub at_end : (text rest : List ℕ) (line : ℕ) (state : State) → length rest ≡ 0 → lines_reading 1 nothing_read (lines_of (without_mark text)) ≡ lines_reading line state (lines_of rest)
+    → sheet_reading text ≡ after_line 0 (sheet_end state) Ok
 unfolding lines_reading
 at_end text [] line state none e = sheet_read text ∙ e ∙ rw no_lines refl
 at_end text (byte ∷ rest) line state none e = absurd (omega arith)

@@ -1,5 +1,5 @@
 -- What holds of a sheet before a line holds after it.
-use Rattle.std.proofs.Common.{◌≡◌, ℕ, zero, suc, ◌+◌, ◌-◌, ◌*◌, ◌<◌, ◌≤◌, List, [], ◌∷◌, ◌++◌, length, Bool, true, false, cond, Option, None, Some, Result, Ok, inl, inr, refl, sym, subst, arith, length-append, lit≤, lit<}
+use Rattle.std.proofs.Common.{◌≡◌, ℕ, zero, suc, ◌+◌, ◌-◌, ◌*◌, ◌<◌, ◌≤◌, List, [], ◌∷◌, ◌++◌, length, Bool, true, false, cond, Option, None, Some, Result, Ok, inl, inr, refl, sym, subst, arith, length-append}
 use Rattle.std.specs.Prelude.{◌==◌, ◌&&◌, not, IfSome, IfOk}
 use Rattle.std.proofs.lemmas.Bool.Decides.{nat_tests}
 use Rattle.std.proofs.lemmas.Bool.{eqb-true, ltb-true, leb-true}
@@ -9,9 +9,9 @@ use Rattle.cue_sheet.specs.declared.command.Command.{Command}
 use Rattle.cue_sheet.specs.declared.command.Command.TheVariants.{Unread, File, Track, Index, Pregap, Postgap}
 use Rattle.cue_sheet.specs.declared.fail.CueKind.{CueKind}
 use Rattle.cue_sheet.specs.declared.sheet.CueTrack.{CueTrack}
-use Rattle.cue_sheet.specs.Parts.{number_of, sectors_of, time_of}
+use Rattle.cue_sheet.specs.Parts.{number_under, time_sectors, time_of}
 use Rattle.cue_sheet.specs.Sheet.{IsTime, IsPlaced}
-use Rattle.cue_sheet.specs.Reading.{State, begun, check, part, follows, with_start, file_reading, track_reading, index_reading, pregap_reading, command_reading, words_reading, line_reading}
+use Rattle.cue_sheet.specs.Reading.{State, line_check, part, follows, with_start, file_reading, track_reading, index_reading, pregap_reading, rest_reading, words_reading, line_reading}
 use Rattle.cue_sheet.specs.Progress.{IsCounted, IsSound}
 
 -- ---- what stands behind checks
@@ -19,8 +19,8 @@ use Rattle.cue_sheet.specs.Progress.{IsCounted, IsSound}
 abbrev KeepsSound : Result State CueKind → Type 0
 KeepsSound read = IfOk read IsSound
 
-behind_check : (holds : Bool) (kind : CueKind) (next : Result State CueKind) → (holds ≡ true → KeepsSound next) → KeepsSound (check holds kind next)
-unfolding check
+behind_check : (holds : Bool) (kind : CueKind) (next : Result State CueKind) → (holds ≡ true → KeepsSound next) → KeepsSound (line_check holds kind next)
+unfolding line_check
 behind_check true kind next sound = sound refl
 behind_check false kind next sound = tt
 
@@ -29,18 +29,18 @@ unfolding part
 behind_part None kind next sound = tt
 behind_part (Some a) kind next sound = sound a refl
 
-number_in_range : (most limit : ℕ) (word : List ℕ) (number : ℕ) → number_of most limit word ≡ Some number → number < limit
-unfolding number_of
+number_in_range : (most limit : ℕ) (word : List ℕ) (number : ℕ) → number_under most limit word ≡ Some number → number < limit
+unfolding number_under
 number_in_range most limit word number e = grind (arith, nat_tests)
 
-number_below : (most limit : ℕ) (word : List ℕ) → IfSome (number_of most limit word) (λ n. n < limit)
-number_below most limit word = by (number_of most limit word) refl
+number_below : (most limit : ℕ) (word : List ℕ) → IfSome (number_under most limit word) (λ n. n < limit)
+number_below most limit word = by (number_under most limit word) refl
   where
-    by : (found : Option ℕ) → number_of most limit word ≡ found → IfSome found (λ n. n < limit)
+    by : (found : Option ℕ) → number_under most limit word ≡ found → IfSome found (λ n. n < limit)
     by None e = tt
     by (Some n) e = number_in_range most limit word n e
 
-sectors_in_range : (m s f : Option ℕ) (time : ℕ) → IfSome m (λ n. n < 1000) → IfSome s (λ n. n < 60) → IfSome f (λ n. n < 75) → sectors_of m s f ≡ Some time → IsTime time
+sectors_in_range : (m s f : Option ℕ) (time : ℕ) → IfSome m (λ n. n < 1000) → IfSome s (λ n. n < 60) → IfSome f (λ n. n < 75) → time_sectors m s f ≡ Some time → IsTime time
 sectors_in_range None s f time a b c e = cc
 sectors_in_range (Some m) None f time a b c e = cc
 sectors_in_range (Some m) (Some s) None time a b c e = cc
@@ -201,7 +201,7 @@ pregap_sound state text sound =
       pregap_timed = time_in_range _ time is_time;
     })))
 
-command_sound : (command : Command) (state : State) (text : List ℕ) → IsSound state → KeepsSound (command_reading command state text)
+command_sound : (command : Command) (state : State) (text : List ℕ) → IsSound state → KeepsSound (rest_reading command state text)
 command_sound Unread state text sound = sound
 command_sound File state text sound = file_sound state text sound
 command_sound Track state text sound = track_sound state text sound
@@ -221,16 +221,3 @@ words_sound state text sound = behind_choice (length text == 0) _ _ sound (behin
 pub line_sound : (state next : State) (line : List ℕ) → IsSound state → line_reading state line ≡ Ok next → IsSound next
 unfolding line_reading
 line_sound state next line sound e = subst KeepsSound e (words_sound state _ sound)
-
-pub begun_sound : IsSound begun
-begun_sound = record {
-  few_files = lit≤ tt;
-  file_first = λ some. absurd (omega arith);
-  few = lit≤ tt;
-  labelled = tt;
-  counted = inr (refl, refl);
-  placed = λ k d inside. absurd (omega arith);
-  in_order = λ i j d earlier inside. absurd (omega arith);
-  timed = lit< tt;
-  pregap_timed = tt;
-}

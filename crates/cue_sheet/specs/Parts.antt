@@ -11,20 +11,20 @@ unfoldable pub same_word : List ℕ → List ℕ → Bool
 same_word word other = str_eq_ignore_ascii_case word other
 
 -- a number of one to so many digits that is below the limit
-unfoldable pub number_of : ℕ → ℕ → List ℕ → Option ℕ
-number_of most limit word =
+unfoldable pub number_under : ℕ → ℕ → List ℕ → Option ℕ
+number_under most limit word =
     if all_ascii_digits word && not (length word == 0) && nat_le (length word) most && nat_lt (digits_value 10 word) limit
     then Some (digits_value 10 word)
     else None
 
 -- a number of a track or of an index: one or two digits
 abbrev pub label_of : List ℕ → Option ℕ
-label_of word = number_of 2 100 word
+label_of word = number_under 2 100 word
 
 -- the sectors of a time, of which each second has 75
-abbrev pub sectors_of : Option ℕ → Option ℕ → Option ℕ → Option ℕ
-sectors_of (Some minutes) (Some seconds) (Some frames) = Some ((minutes * 60 + seconds) * 75 + frames)
-sectors_of minutes seconds frames = None
+abbrev pub time_sectors : Option ℕ → Option ℕ → Option ℕ → Option ℕ
+time_sectors (Some minutes) (Some seconds) (Some frames) = Some ((minutes * 60 + seconds) * 75 + frames)
+time_sectors minutes seconds frames = None
 
 abbrev pub is_colon : ℕ → Bool
 is_colon byte = byte == 58
@@ -33,7 +33,7 @@ is_colon byte = byte == 58
 unfoldable pub time_of : List ℕ → Option ℕ
 time_of text =
     let seconds_on = after_first is_colon text in
-    sectors_of (number_of 3 1000 (before_first is_colon text)) (number_of 2 60 (before_first is_colon seconds_on)) (number_of 2 75 (after_first is_colon seconds_on))
+    time_sectors (number_under 3 1000 (before_first is_colon text)) (number_under 2 60 (before_first is_colon seconds_on)) (number_under 2 75 (after_first is_colon seconds_on))
 
 -- ---- the name of a file
 

@@ -1,4 +1,5 @@
 -- What was read of a sheet so far, as the code keeps it.
+-- The code's own: functions inside the crate say it of their steps, and no public contract does.
 use Rattle.std.specs.Prelude.{◌≡◌, ℕ, zero, suc, ◌+◌, ◌⊎◌, ◌<◌, ◌≤◌, length, All, AllPairs, Option, None, Some, IfSome, Result, Ok, Err}
 use Rattle.cue_sheet.specs.declared.fail.CueKind.{CueKind}
 use Rattle.cue_sheet.specs.declared.fail.LineFail.{LineFail}

@@ -20,7 +20,7 @@ pub record Sheet : Type 0 where
   pub pregap : ℕ
 
 -- the line with which a sheet is refused, or 0 for its end, and why
-pub record Refusal : Type 0 where
+pub record RefusedLine : Type 0 where
   pub line : ℕ
   pub kind : CueKind
 
@@ -36,8 +36,8 @@ pub record State : Type 0 where
   pub time : ℕ
   pub pregap : Option ℕ
 
-abbrev pub begun : State
-begun = record { files = []; tracks = []; number = 0; index = None; time = 0; pregap = None }
+abbrev pub nothing_read : State
+nothing_read = record { files = []; tracks = []; number = 0; index = None; time = 0; pregap = None }
 
 abbrev pub has_file : State → Bool
 has_file state = not (length state.files == 0)
@@ -52,8 +52,8 @@ is_complete state = length state.tracks == state.number
 -- ---- the checks of a line
 
 -- a test, and what comes where it holds
-unfoldable pub check : {T : Type 0} → Bool → CueKind → Result T CueKind → Result T CueKind
-check holds kind next = if holds then next else Err kind
+unfoldable pub line_check : {T : Type 0} → Bool → CueKind → Result T CueKind → Result T CueKind
+line_check holds kind next = if holds then next else Err kind
 
 -- a part that has to be there, and what comes where it is
 unfoldable pub part : {A T : Type 0} → Option A → CueKind → (A → Result T CueKind) → Result T CueKind
@@ -65,18 +65,18 @@ part (Some found) kind next = next found
 unfoldable pub file_reading : State → List ℕ → Result State CueKind
 file_reading state text =
     part (name_of text) BadQuote (λ named.
-    check (is_utf8 named.name) NameNotText (
-    check (same_word (trim_end (trim_start named.rest)) (codes "WAVE")) NotWave (
-    check (nat_lt (length state.files) 100) TooManyFiles (
+    line_check (is_utf8 named.name) NameNotText (
+    line_check (same_word (trim_end (trim_start named.rest)) (codes "WAVE")) NotWave (
+    line_check (nat_lt (length state.files) 100) TooManyFiles (
     Ok record state { files = state.files ++ named.name ∷ []; time = 0 }))))
 
 unfoldable pub track_reading : State → List ℕ → Result State CueKind
 track_reading state text =
-    check (has_file state) NoFile (
+    line_check (has_file state) NoFile (
     part (label_of (word_of text)) BadNumber (λ number.
-    check (same_word (trim_end (after_word text)) (codes "AUDIO")) DataTrack (
-    check (number == state.number + 1) TrackOrder (
-    check (is_complete state) NoIndex01 (
+    line_check (same_word (trim_end (after_word text)) (codes "AUDIO")) DataTrack (
+    line_check (number == state.number + 1) TrackOrder (
+    line_check (is_complete state) NoIndex01 (
     Ok record state { number = number; index = None })))))
 
 -- the first INDEX of a track is 00 or 01, and each further one is one more
@@ -91,10 +91,10 @@ with_start state number time =
 
 unfoldable pub index_reading : State → List ℕ → Result State CueKind
 index_reading state text =
-    check (has_track state) NoTrack (
+    line_check (has_track state) NoTrack (
     part (label_of (word_of text)) BadNumber (λ number.
     part (time_of (trim_end (after_word text))) BadTime (λ time.
-    check (follows state.index number && nat_le state.time time) IndexOrder (
+    line_check (follows state.index number && nat_le state.time time) IndexOrder (
     Ok record state { index = Some number; time = time; tracks = with_start state number time }))))
 
 -- a pregap stands once, in the first track, before its INDEX 01
@@ -103,8 +103,8 @@ may_have_pregap state = state.number == 1 && length state.tracks == 0 && is_none
 
 unfoldable pub pregap_reading : State → List ℕ → Result State CueKind
 pregap_reading state text =
-    check (has_track state) NoTrack (
-    check (may_have_pregap state) LatePregap (
+    line_check (has_track state) NoTrack (
+    line_check (may_have_pregap state) LatePregap (
     part (time_of (trim_end text)) BadTime (λ time.
     Ok record state { pregap = Some time })))
 
@@ -127,19 +127,19 @@ command_of word =
     else None
 
 -- what a command says with the rest of its line
-abbrev pub command_reading : Command → State → List ℕ → Result State CueKind
-command_reading Unread state text = Ok state
-command_reading File state text = file_reading state text
-command_reading Track state text = track_reading state text
-command_reading Index state text = index_reading state text
-command_reading Pregap state text = pregap_reading state text
-command_reading PostgapLine state text = Err Postgap
+abbrev pub rest_reading : Command → State → List ℕ → Result State CueKind
+rest_reading Unread state text = Ok state
+rest_reading File state text = file_reading state text
+rest_reading Track state text = track_reading state text
+rest_reading Index state text = index_reading state text
+rest_reading Pregap state text = pregap_reading state text
+rest_reading PostgapLine state text = Err Postgap
 
 -- a line from its first word on, if it has one
 unfoldable pub words_reading : State → List ℕ → Result State CueKind
 words_reading state text =
     if length text == 0 then Ok state
-    else part (command_of (word_of text)) UnknownWord (λ command. command_reading command state (after_word text))
+    else part (command_of (word_of text)) UnknownWord (λ command. rest_reading command state (after_word text))
 
 unfoldable pub line_reading : State → List ℕ → Result State CueKind
 line_reading state line = words_reading state (trim_start (without_return line))
@@ -147,25 +147,25 @@ line_reading state line = words_reading state (trim_start (without_return line))
 -- ---- the whole
 
 -- at the end of a sheet
-unfoldable pub ended : State → Result Sheet CueKind
-ended state =
-    check (has_track state) NoTracks (
-    check (is_complete state) NoIndex01 (
+unfoldable pub sheet_end : State → Result Sheet CueKind
+sheet_end state =
+    line_check (has_track state) NoTracks (
+    line_check (is_complete state) NoIndex01 (
     Ok record { files = state.files; tracks = state.tracks; pregap = unwrap_or state.pregap 0 }))
 
 -- what comes after a line, or the refusal of that line
-abbrev pub following : {A B : Type 0} → ℕ → Result A CueKind → (A → Result B Refusal) → Result B Refusal
-following line (Ok read) next = next read
-following line (Err kind) next = Err record { line = line; kind = kind }
+abbrev pub after_line : {A B : Type 0} → ℕ → Result A CueKind → (A → Result B RefusedLine) → Result B RefusedLine
+after_line line (Ok read) next = next read
+after_line line (Err kind) next = Err record { line = line; kind = kind }
 
 -- the lines from the one with this number on
-unfoldable pub lines_reading : ℕ → State → List (List ℕ) → Result Sheet Refusal
-lines_reading line state [] = following 0 (ended state) Ok
-lines_reading line state (first ∷ others) = following line (line_reading state first) (λ next. lines_reading (line + 1) next others)
+unfoldable pub lines_reading : ℕ → State → List (List ℕ) → Result Sheet RefusedLine
+lines_reading line state [] = after_line 0 (sheet_end state) Ok
+lines_reading line state (first ∷ others) = after_line line (line_reading state first) (λ next. lines_reading (line + 1) next others)
 
 -- the sheet that a text is, or the first line with which it is refused
-unfoldable pub sheet_reading : List ℕ → Result Sheet Refusal
-sheet_reading text = lines_reading 1 begun (lines_of (without_mark text))
+unfoldable pub sheet_reading : List ℕ → Result Sheet RefusedLine
+sheet_reading text = lines_reading 1 nothing_read (lines_of (without_mark text))
 
 -- ---- what a call answers
 
@@ -173,7 +173,7 @@ abbrev pub sheet_of : Cue → Sheet
 sheet_of cue = record { files = cue.files; tracks = cue.tracks; pregap = cue.pregap }
 
 -- exactly what the text is read as, or want of memory
-abbrev pub Reads : Result Cue CueFail → Result Sheet Refusal → Type 0
-Reads (Ok cue) reading = reading ≡ Ok (sheet_of cue)
-Reads (Err (Refused line kind)) reading = reading ≡ Err record { line = line; kind = kind }
-Reads (Err Oom) reading = Unit {0}
+abbrev pub ReadsSheet : Result Cue CueFail → Result Sheet RefusedLine → Type 0
+ReadsSheet (Ok cue) reading = reading ≡ Ok (sheet_of cue)
+ReadsSheet (Err (Refused line kind)) reading = reading ≡ Err record { line = line; kind = kind }
+ReadsSheet (Err Oom) reading = Unit {0}

@@ -11,7 +11,7 @@ pub enum CueKind {
     BadQuote,
     /// A file's name isn't UTF-8.
     NameNotText,
-    /// A FILE line doesn't end in `WAVE`.
+    /// What stands behind the name in a FILE line isn't the word `WAVE` alone.
     NotWave,
     /// There are more than a hundred files.
     TooManyFiles,
@@ -19,7 +19,7 @@ pub enum CueKind {
     NoFile,
     /// A number isn't one or two digits.
     BadNumber,
-    /// A TRACK line doesn't end in `AUDIO`.
+    /// What stands behind the number in a TRACK line isn't the word `AUDIO` alone.
     DataTrack,
     /// The tracks don't count from 1 on.
     TrackOrder,

@@ -1,16 +1,16 @@
 // The parts of a line: numbers, times and names.
 ghost use Rattle.std.specs.Prelude.{◌≡◌, ◌<◌, ◌≤◌, true, false, MatchOption, IfSome};
 ghost use Rattle.std.specs.Str.{is_utf8};
-ghost use Rattle.cue_sheet.specs.Parts.{number_of, label_of, time_of, name_of, quoted, ReadsName};
+ghost use Rattle.cue_sheet.specs.Parts.{number_under, label_of, time_of, name_of, quoted, ReadsName};
 ghost use Rattle.cue_sheet.specs.Sheet.{IsTime};
 
 use crate::text::{split, split_word};
 
 // A number of one to so many digits that is below the limit.
-#[tactic(auto, unfolding(crate::specs::Parts::number_of))]
+#[tactic(auto, unfolding(crate::specs::Parts::number_under))]
 pub fn number_of(most: usize, limit: u32, word: &[u8]) -> Option<u32>
     requires { most ≤ 3 }
-    ensures value { result ≡ number_of most limit word.now }
+    ensures value { result ≡ number_under most limit word.now }
     ensures range { IfSome result (λ number. number < limit) }
 {
     if word.is_empty() || word.len() > most {

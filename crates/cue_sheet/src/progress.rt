@@ -1,6 +1,6 @@
 // What was read of a sheet so far, and the commands that add to it.
 ghost use Rattle.std.specs.Prelude.{◌≡◌, ◌<◌, ◌≤◌, MatchResult, IfSome};
-ghost use Rattle.cue_sheet.specs.Reading.{begun, ended, file_reading, follows, track_reading, index_reading, is_complete, pregap_reading, sheet_of};
+ghost use Rattle.cue_sheet.specs.Reading.{nothing_read, sheet_end, file_reading, follows, track_reading, index_reading, is_complete, pregap_reading, sheet_of};
 ghost use Rattle.cue_sheet.specs.Progress.{state_of, IsSound, Steps, StepsOrWants};
 
 use crate::command::same_word;
@@ -8,7 +8,7 @@ use crate::fail::{CueKind, LineFail};
 use crate::parts::{label_of, name_of, text_of, time_of};
 use crate::sheet::{Cue, CueTrack, CueTracks};
 use crate::text::{split_word, trim_end, trim_start};
-use rip_outside::{Name, Names};
+use rip_basics::{Name, Names};
 use std::alloc::Global;
 
 // What was read of a sheet so far.
@@ -29,7 +29,7 @@ pub struct Progress {
 
 // A sheet of which nothing was read.
 pub fn new_progress(alloc: Global) -> Progress
-    ensures { state_of result ≡ begun }
+    ensures { state_of result ≡ nothing_read }
 {
     Progress {
         files: Vec::new(alloc),
@@ -58,7 +58,7 @@ fn is_complete(progress: &Progress) -> bool
 const MOST_FILES: usize = 100;
 
 // A FILE line.
-#[tactic(auto, unfolding(crate::specs::Reading::file_reading, crate::specs::Reading::check, crate::specs::Reading::part))]
+#[tactic(auto, unfolding(crate::specs::Reading::file_reading, crate::specs::Reading::line_check, crate::specs::Reading::part))]
 pub fn read_file(alloc: Global, progress: &mut Progress, text: &[u8]) -> Result<(), LineFail>
     ensures { StepsOrWants result (file_reading (state_of progress.old) text.now) (state_of progress.new) }
 {
@@ -88,7 +88,7 @@ pub fn read_file(alloc: Global, progress: &mut Progress, text: &[u8]) -> Result<
 }
 
 // A TRACK line.
-#[tactic(auto, unfolding(crate::specs::Reading::track_reading, crate::specs::Reading::check, crate::specs::Reading::part))]
+#[tactic(auto, unfolding(crate::specs::Reading::track_reading, crate::specs::Reading::line_check, crate::specs::Reading::part))]
 pub fn read_track(progress: &mut Progress, text: &[u8]) -> Result<(), CueKind>
     requires { IsSound (state_of progress.old) }
     ensures { Steps result (track_reading (state_of progress.old) text.now) (state_of progress.new) }
@@ -127,7 +127,7 @@ fn follows(before: Option<u32>, number: u32) -> bool
 }
 
 // An INDEX line.
-#[tactic(auto, unfolding(crate::specs::Reading::index_reading, crate::specs::Reading::check, crate::specs::Reading::part))]
+#[tactic(auto, unfolding(crate::specs::Reading::index_reading, crate::specs::Reading::line_check, crate::specs::Reading::part))]
 pub fn read_index(progress: &mut Progress, text: &[u8]) -> Result<(), LineFail>
     requires { IsSound (state_of progress.old) }
     ensures { StepsOrWants result (index_reading (state_of progress.old) text.now) (state_of progress.new) }
@@ -162,7 +162,7 @@ pub fn read_index(progress: &mut Progress, text: &[u8]) -> Result<(), LineFail>
 }
 
 // A PREGAP line.
-#[tactic(auto, unfolding(crate::specs::Reading::pregap_reading, crate::specs::Reading::check, crate::specs::Reading::part))]
+#[tactic(auto, unfolding(crate::specs::Reading::pregap_reading, crate::specs::Reading::line_check, crate::specs::Reading::part))]
 pub fn read_pregap(progress: &mut Progress, text: &[u8]) -> Result<(), CueKind>
     ensures { Steps result (pregap_reading (state_of progress.old) text.now) (state_of progress.new) }
 {
@@ -181,10 +181,10 @@ pub fn read_pregap(progress: &mut Progress, text: &[u8]) -> Result<(), CueKind>
 }
 
 // The sheet, once all its lines were read.
-#[tactic(auto, unfolding(crate::specs::Reading::ended, crate::specs::Reading::check, crate::specs::Reading::part))]
+#[tactic(auto, unfolding(crate::specs::Reading::sheet_end, crate::specs::Reading::line_check, crate::specs::Reading::part))]
 pub fn finish(progress: Progress) -> Result<Cue, CueKind>
     requires { IsSound (state_of progress) }
-    ensures { MatchResult result (λ cue. ended (state_of progress) ≡ Ok (sheet_of cue)) (λ kind. ended (state_of progress) ≡ Err kind) }
+    ensures { MatchResult result (λ cue. sheet_end (state_of progress) ≡ Ok (sheet_of cue)) (λ kind. sheet_end (state_of progress) ≡ Err kind) }
 {
     if progress.number == 0 {
         return Err(CueKind::NoTracks);

@@ -1,6 +1,6 @@
 // How a sheet is read: line by line.
 ghost use Rattle.std.specs.Prelude.{◌≤◌, length};
-ghost use Rattle.cue_sheet.specs.Reading.{line_reading, sheet_reading, Reads};
+ghost use Rattle.cue_sheet.specs.Reading.{line_reading, sheet_reading, ReadsSheet};
 ghost use Rattle.cue_sheet.specs.Progress.{state_of, IsSound, StepsOrWants};
 
 use crate::command::{Command, command_of};
@@ -13,7 +13,7 @@ use crate::text::{split_line, split_word, trim_start, without_mark, without_retu
 use std::alloc::Global;
 
 // A line.
-#[tactic(auto, unfolding(crate::specs::Reading::line_reading, crate::specs::Reading::words_reading, crate::specs::Reading::check, crate::specs::Reading::part))]
+#[tactic(auto, unfolding(crate::specs::Reading::line_reading, crate::specs::Reading::words_reading, crate::specs::Reading::line_check, crate::specs::Reading::part))]
 fn read_line(alloc: Global, progress: &mut Progress, line: &[u8]) -> Result<(), LineFail>
     requires { IsSound (state_of progress.old) }
     ensures { StepsOrWants result (line_reading (state_of progress.old) line.now) (state_of progress.new) }
@@ -49,7 +49,7 @@ fn read_line(alloc: Global, progress: &mut Progress, line: &[u8]) -> Result<(), 
 /// bytes.
 pub fn read_cue(alloc: Global, bytes: &[u8]) -> Result<Cue, CueFail>
     requires { length bytes.now ≤ 1048576 }
-    ensures { Reads result (sheet_reading bytes.now) }
+    ensures { ReadsSheet result (sheet_reading bytes.now) }
 {
     let mut progress = new_progress(alloc);
     let mut rest = without_mark(bytes);

@@ -3,7 +3,7 @@ ghost use Rattle.std.specs.Prelude.{◌≡◌};
 ghost use Rattle.cue_sheet.specs.Sheet.{IsSheet};
 ghost use Rattle.std.proofs.Props.{props};
 
-use rip_outside::Names;
+use rip_basics::Names;
 use std::marker::Model;
 
 /// Where a track begins: the file in which its INDEX 01 stands, counted from 0, and that

@@ -21,27 +21,36 @@ fn assert_errors<const P: usize>(
     }
 }
 
+// The syndromes of a column, its number of words, and its wrong ones where there is a list: their places and flips.
+type Column = ([u16; 4], u32, Option<(&'static [u16], &'static [u16])>);
+
+const COLUMNS: [Column; 7] = [
+    ([0, 0, 0, 0], 3, Some((&[], &[]))),
+    ([1, 1, 1, 1], 3, Some((&[2], &[1]))),
+    ([0, 3, 5, 9], 3, Some((&[1, 2], &[1, 1]))),
+    ([1, 1, 1, 1], 1, Some((&[0], &[1]))),
+    ([1, 0, 0, 0], 3, None),
+    ([0, 0, 0, 1], 3, None),
+    ([0, 3, 5, 9], 1, None),
+];
+
 #[test]
 fn columns_of_one_and_three_words(rt: HostRuntime) -> Result<(), Fail> {
     let field = Tables::new(rt.alloc())?;
-    assert_errors(&rt, decode_column(&field, [0u16, 0, 0, 0], 3), &[], &[]);
-    assert_errors(&rt, decode_column(&field, [1u16, 1, 1, 1], 3), &[2], &[1]);
-    assert_errors(
-        &rt,
-        decode_column(&field, [0u16, 3, 5, 9], 3),
-        &[1, 2],
-        &[1, 1],
-    );
-    assert_errors(&rt, decode_column(&field, [1u16, 1, 1, 1], 1), &[0], &[1]);
-    assert!(rt; decode_column(&field, [1u16, 0, 0, 0], 3).is_none());
-    assert!(rt; decode_column(&field, [0u16, 0, 0, 1], 3).is_none());
+    for (s, c, wanted) in COLUMNS {
+        assert!(rt; 0 < c && c <= 44_548);
+        let found = decode_column(&field, s, c);
+        match wanted {
+            Some((places, flips)) => assert_errors(&rt, found, places, flips),
+            None => assert!(rt; found.is_none()),
+        }
+    }
     assert!(rt; !may_decode(&field, [0u16, 0, 0, 1]));
     assert!(rt; may_decode(&field, [0u16, 3, 5, 9]));
-    assert!(rt; decode_column(&field, [0u16, 3, 5, 9], 1).is_none());
     Ok(())
 }
 
-/// The `P` words of a row from its `at`-th on.
+// The `P` words of a row from its `at`-th on.
 fn words_from<const P: usize>(row: &[u16], at: usize) -> [u16; P]
     requires { at + P ≤ length row.now }
 {
@@ -52,7 +61,7 @@ fn words_from<const P: usize>(row: &[u16], at: usize) -> [u16; P]
     words
 }
 
-/// Decodes the syndromes of a row: `c`, the number of errors or 65,535, `P / 2` places, `P / 2` flips, `P` syndromes.
+// Decodes the syndromes of a row, and sees that they are the errors that stand there: `c`, the number of errors or 65,535, `P / 2` places, `P / 2` flips, `P` syndromes.
 fn assert_row<const P: usize>(rt: &impl Abort, field: &Tables, row: &[u16])
     requires { P ≤ 32 }
 {

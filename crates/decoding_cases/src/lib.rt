@@ -1,5 +1,5 @@
-//! Worked cases of parity and of decoding: the field, registers, columns, parity in pieces and at each start, and the
-//! words of made discs.
+//! Worked cases of parity and of decoding: the field, registers, columns, sums that are folded, parity in pieces and at
+//! each start, and the words of made discs.
 #![tactic(auto)]
 
 #[cfg(test)]
@@ -10,6 +10,8 @@ mod columns;
 mod field;
 #[cfg(test)]
 mod field_rows;
+#[cfg(test)]
+mod images;
 #[cfg(test)]
 mod parity;
 #[cfg(test)]

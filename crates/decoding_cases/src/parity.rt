@@ -1,23 +1,12 @@
-// Worked cases of parity: by hand, of an image that comes in pieces.
-ghost use Rattle.std.specs.Prelude.{◌≡◌, ◌*◌, ◌≤◌, IfOk, length, vec_len};
+// Worked cases of parity: sums that are folded, and images that come in pieces.
+ghost use Rattle.std.specs.Prelude.{◌≡◌, ◌*◌, ◌≤◌, length};
 
+use crate::images::{one_word, ramp};
 use column_map::Shape;
-use made_discs::ramp;
-use rip_outside::Oom;
-use std::alloc::{AllocError, Global};
+use rip_basics::Oom;
+use std::alloc::Global;
 use std::test::Fail;
-use syndrome_stream::{Registers, Table};
-
-// An image of zeros but for the word 1 at a place.
-fn one_word(alloc: Global, count: usize, place: usize) -> Result<Vec<u16>, AllocError>
-    ensures { IfOk result (λ words. vec_len words ≡ count) }
-{
-    let mut words = Vec::new(alloc);
-    for i in 0..count {
-        words.push(u16::from(i == place))?;
-    }
-    Ok(words)
-}
+use syndrome_stream::{Registers, Table, fold_stride};
 
 // The parity of an image, whose words come in three pieces: the second ends in the middle of a stride and of 32 words.
 fn parity<const P: usize>(alloc: Global, shape: Shape, words: &[u16]) -> Result<Table<P>, Oom>
@@ -62,4 +51,14 @@ fn worked_parities(rt: HostRuntime) -> Result<(), Fail> {
     );
     assert_eq!(rt; parity::<4>(alloc, shape, &earlier)?.row(5), [1, 2, 4, 8]);
     Ok(())
+}
+
+// Twice 0x8000 is 0x100B. 33 places are a whole vector of 32 and one more.
+#[test]
+fn a_word_is_folded_into_each_sum(rt: HostRuntime) {
+    let mut sums = [0x8000u16; 33];
+    fold_stride(&mut sums, &[1u16; 33], 1);
+    assert_eq!(rt; sums, [0x100A; 33]);
+    fold_stride(&mut sums[..0], &[], 1);
+    assert_eq!(rt; sums, [0x100A; 33]);
 }

@@ -23,21 +23,28 @@ fn a_register_of_two_coefficients(rt: HostRuntime) -> Result<(), Fail> {
     Ok(())
 }
 
-fn assert_located(rt: &impl Abort, field: &Tables, s: [u16; 4], len: usize, coef: [u16; 4]) {
-    let register = locate(field, s);
-    assert!(rt; register.len == len);
-    assert!(rt; register.coef == coef);
-}
+// Four words, and the length and the coefficients of their shortest register, which is not the only one of the length 4.
+type Located = ([u16; 4], usize, Option<[u16; 4]>);
+
+const LOCATED: [Located; 6] = [
+    ([0, 0, 0, 0], 0, Some([0, 0, 0, 0])),
+    ([1, 1, 1, 1], 1, Some([1, 0, 0, 0])),
+    ([1, 2, 4, 8], 1, Some([2, 0, 0, 0])),
+    ([0, 3, 5, 9], 2, Some([3, 2, 0, 0])),
+    ([1, 0, 0, 0], 1, Some([0, 0, 0, 0])),
+    ([0, 0, 0, 1], 4, None),
+];
 
 #[test]
 fn registers_of_four_words(rt: HostRuntime) -> Result<(), Fail> {
     let field = Tables::new(rt.alloc())?;
-    assert_located(&rt, &field, [0, 0, 0, 0], 0, [0, 0, 0, 0]);
-    assert_located(&rt, &field, [1, 1, 1, 1], 1, [1, 0, 0, 0]);
-    assert_located(&rt, &field, [1, 2, 4, 8], 1, [2, 0, 0, 0]);
-    assert_located(&rt, &field, [0, 3, 5, 9], 2, [3, 2, 0, 0]);
-    assert_located(&rt, &field, [1, 0, 0, 0], 1, [0, 0, 0, 0]);
-    assert!(rt; locate(&field, [0u16, 0, 0, 1]).len == 4);
+    for (words, len, coef) in LOCATED {
+        let register = locate(&field, words);
+        assert_eq!(rt; register.len, len);
+        if let Some(coef) = coef {
+            assert_eq!(rt; register.coef, coef);
+        }
+    }
     Ok(())
 }
 

@@ -1,26 +1,14 @@
 // Starts that slide: steps that were worked out by hand, and each row beside that of starts which sum it anew.
-ghost use Rattle.std.specs.Prelude.{◌≡◌, ◌*◌, ◌≤◌, IfOk, length, vec_len};
+ghost use Rattle.std.specs.Prelude.{◌≡◌, ◌*◌, ◌≤◌, length};
 
+use crate::images::mixed;
 use column_map::Shape;
 use gf16_field::Tables;
 use offset_slide::{Edges, Slides, down, up};
-use rip_outside::Oom;
-use std::alloc::{AllocError, Global};
+use rip_basics::Oom;
+use std::alloc::Global;
 use std::test::Fail;
 use syndrome_stream::{PlainStarts, Registers, Starts};
-
-// Words that follow no short pattern.
-fn mixed(alloc: Global, count: usize) -> Result<Vec<u16>, AllocError>
-    ensures { IfOk result (λ words. vec_len words ≡ count) }
-{
-    let mut words = Vec::new(alloc);
-    let mut state = 1u32;
-    for _ in 0..count {
-        state = state.wrapping_mul(1_103_515_245).wrapping_add(12_345);
-        words.push((state >> 16) as u16)?;
-    }
-    Ok(words)
-}
 
 // The starts of an image whose words come in three pieces: the second ends in the middle of a stride.
 fn slides<const P: usize>(

@@ -1,6 +1,6 @@
 // Worked cases of made discs: words of the generator, as `erand48` of a C library gives them, and rips of such words.
+use crate::images::ramp;
 use column_map::Shape;
-use made_discs::ramp;
 use std::test::Fail;
 use trial_disc::{disc_words, made_rip};
 

@@ -1,13 +1,12 @@
 -- Laws of texts: one digit more, one field more.
-use Rattle.std.proofs.Common.{length, ◌≤◌, length-append, ◌≡◌, ℕ, zero, suc, ◌+◌, ◌-◌, ◌*◌, ◌/◌, ◌%◌, ◌^◌, List, [], ◌∷◌, ◌++◌, map, get_or, refl, sym, ap, ◌∙◌, arith}
+use Rattle.std.proofs.Common.{◌≡◌, ℕ, zero, suc, ◌+◌, ◌-◌, ◌*◌, ◌/◌, ◌%◌, ◌^◌, List, [], ◌∷◌, ◌++◌, map, get_or, refl, sym, ap, ◌∙◌, arith}
 use Rattle.std.specs.List.{flat_map, range_with_len}
-use Rattle.std.proofs.lemmas.List.{flat_map_more, length-replicate}
-use Rattle.std.proofs.lemmas.List.FromFn.{length-map-range_with_len, length-range_with_len, map-range_with_len_more}
+use Rattle.std.proofs.lemmas.List.{flat_map_more}
+use Rattle.std.proofs.lemmas.List.FromFn.{map-range_with_len_more}
 use Rattle.std.proofs.Math.Nat.{pow-suc}
 use Rattle.std.proofs.lemmas.Nat.{pow-add}
 use Rattle.disc_toc.specs.Toc.{Toc}
-use Rattle.disc_ids.specs.Places.{lead_out}
-use Rattle.disc_ids.specs.Texts.{hex_digit, hex_digits, later_starts, musicbrainz_text, store_key_text, track_field, track_fields}
+use Rattle.disc_ids.specs.Texts.{hex_digit, hex_digits, later_starts, track_field, track_fields}
 use Rattle.disc_ids.proofs.NumberLaws.{range-more}
 
 -- a shift by four bits for each digit divides by a power of 16
@@ -54,38 +53,3 @@ later_starts-more starts text n =
     ap (λ k. (text ++ flat_map (λ t. hex_digits 8 (get_or starts (t - 1) 0 - get_or starts 0 0)) (range_with_len 2 n)) ++ hex_digits 8 (get_or starts k 0 - get_or starts 0 0)) next
     ∙ flat_map_more (λ t. hex_digits 8 (get_or starts (t - 1) 0 - get_or starts 0 0)) text (range_with_len 2 n) (2 + n)
     ∙ ap (λ ts. text ++ flat_map (λ t. hex_digits 8 (get_or starts (t - 1) 0 - get_or starts 0 0)) ts) (sym (range-more 2 n))
-
--- ---- how long the texts are
-
-pub length-hex_digits : (count n : ℕ) → length (hex_digits count n) ≡ count
-unfolding hex_digits
-length-hex_digits count n = length-map-range_with_len (λ i. hex_digit (n / 16 ^ (count - 1 - i) % 16)) 0 count
-
-length_of_fields : (f : ℕ → ℕ) (ts : List ℕ) → length (flat_map (λ t. hex_digits 8 (f t)) ts) ≡ 8 * length ts
-length_of_fields f [] = refl
-length_of_fields f (t ∷ ts) =
-    length-append (hex_digits 8 (f t)) (flat_map (λ i. hex_digits 8 (f i)) ts)
-    ∙ omega (arith, length-hex_digits 8 (f t), length_of_fields f ts)
-
-pub length-track_fields : (toc : Toc) (n : ℕ) → length (track_fields toc n) ≡ 8 * n
-unfolding track_fields
-length-track_fields toc n = length_of_fields (track_field toc) (range_with_len 1 n) ∙ ap (λ m. 8 * m) (length-range_with_len 1 n)
-
-pub length-later_starts : (starts : List ℕ) (n : ℕ) → length (later_starts starts n) ≡ 8 * n
-unfolding later_starts
-length-later_starts starts n =
-    length_of_fields (λ t. get_or starts (t - 1) 0 - get_or starts 0 0) (range_with_len 2 n) ∙ ap (λ m. 8 * m) (length-range_with_len 2 n)
-
-pub length-musicbrainz_text : (toc : Toc) → length (musicbrainz_text toc) ≡ 804
-unfolding musicbrainz_text
-length-musicbrainz_text toc =
-    let first = length-hex_digits 2 1 in
-    let last = length-hex_digits 2 (length toc.starts) in
-    let end = length-hex_digits 8 (lead_out toc + 150) in
-    simp length-append (omega (arith, first, last, end, length-track_fields toc 99))
-
-pub length-store_key_text : (toc : Toc) → 1 ≤ length toc.starts → length toc.starts ≤ 100 → length (store_key_text toc) ≡ 800
-unfolding store_key_text
-length-store_key_text toc some few =
-    let end = length-hex_digits 8 (toc.sectors - get_or toc.starts 0 0) in
-    simp (length-append, length-replicate) (omega (arith, end, length-later_starts toc.starts (length toc.starts - 1)))

@@ -10,7 +10,7 @@ ghost use Rattle.disc_ids.specs.Texts.{musicbrainz_text, store_key_text};
 use crate::texts::{text_for_key, text_for_musicbrainz};
 use base64::engine::general_purpose::STANDARD;
 use disc_toc::Layout;
-use rip_outside::Oom;
+use rip_basics::Oom;
 use sha1::Sha1;
 use std::alloc::Global;
 

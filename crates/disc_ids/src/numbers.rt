@@ -1,5 +1,6 @@
 // The ids that are numbers.
 ghost use Rattle.std.specs.Prelude.{◌≡◌, ◌≤◌};
+ghost use Rattle.rip_basics.specs.Disc.{most_sectors};
 ghost use Rattle.disc_toc.specs.Toc.{toc_of};
 ghost use Rattle.disc_ids.specs.Numbers.{accurip_id_one, accurip_id_two, digit_sum, digits_of_seconds, freedb_number, second};
 
@@ -39,7 +40,7 @@ pub fn accurip_ids(layout: &Layout) -> (u32, u32)
 
 // The second in which a sector is: sector 0 is in second 2.
 fn second_of(sector: u32) -> u32
-    requires { sector ≤ 445500 }
+    requires { sector ≤ most_sectors }
     ensures second { result ≡ second sector }
     ensures on_disc { result ≤ 5942 }
 {

@@ -1,5 +1,6 @@
 // Where the tracks of a disc begin, and where the last one ends.
 ghost use Rattle.std.specs.Prelude.{◌≡◌, ◌+◌, ◌<◌, ◌≤◌, length};
+ghost use Rattle.rip_basics.specs.Disc.{most_sectors};
 ghost use Rattle.disc_toc.specs.Toc.{toc_of};
 ghost use Rattle.disc_ids.specs.Places.{lead_out, track_begin};
 
@@ -9,7 +10,7 @@ use disc_toc::Layout;
 pub(crate) fn begin(layout: &Layout, before: usize) -> u32
     requires { before < length layout.now.starts }
     ensures place { result ≡ track_begin (toc_of layout.now) (before + 1) }
-    ensures on_disc { result < 445500 }
+    ensures on_disc { result < most_sectors }
 {
     layout.pregap + layout.starts.as_slice()[before]
 }
@@ -17,7 +18,7 @@ pub(crate) fn begin(layout: &Layout, before: usize) -> u32
 // Where the last track ends.
 pub(crate) fn lead(layout: &Layout) -> u32
     ensures place { result ≡ lead_out (toc_of layout.now) }
-    ensures on_disc { result ≤ 445500 }
+    ensures on_disc { result ≤ most_sectors }
 {
     layout.pregap + layout.sectors
 }

@@ -5,7 +5,7 @@ ghost use Rattle.disc_ids.specs.Texts.{hex_digit, hex_digits, later_starts, musi
 
 use crate::places::{begin, lead};
 use disc_toc::Layout;
-use rip_outside::Oom;
+use rip_basics::Oom;
 use std::alloc::Global;
 
 // The most tracks of a disc.
@@ -13,15 +13,6 @@ const MOST_TRACKS: usize = 99;
 
 // The characters of a store key's text.
 const KEY_LENGTH: usize = 800;
-
-fn add(text: &mut Vec<u8>, character: u8) -> Result<(), Oom>
-    ensures { OnOk result (text.new.items ≡ text.old.items ++ character ∷ []) }
-{
-    match text.push(character) {
-        Ok(()) => Ok(()),
-        Err(_) => Err(Oom),
-    }
-}
 
 fn hex(digit: u32) -> u8
     requires { digit < 16 }
@@ -40,7 +31,7 @@ fn add_hex(text: &mut Vec<u8>, digits: u32, number: u32) -> Result<(), Oom>
     ensures { OnOk result (text.new.items ≡ text.old.items ++ hex_digits digits number) }
 {
     for i in 0..digits {
-        add(text, hex((number >> (4 * (digits - 1 - i))) % 16))?;
+        text.push(hex((number >> (4 * (digits - 1 - i))) % 16))?;
     }
     Ok(())
 }
@@ -93,7 +84,7 @@ fn add_zeros(text: &mut Vec<u8>, count: usize) -> Result<(), Oom>
     ensures { OnOk result (text.new.items ≡ text.old.items ++ replicate count 48) }
 {
     for i in 0..count {
-        add(text, b'0')?;
+        text.push(b'0')?;
     }
     Ok(())
 }

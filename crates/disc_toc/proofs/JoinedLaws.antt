@@ -14,7 +14,7 @@ use Rattle.disc_toc.specs.declared.reading.LayoutKind.TheVariants.{NotWholeSecto
 use Rattle.disc_toc.specs.Toc.{Toc}
 use Rattle.disc_toc.specs.Layout.{IsLayout}
 use Rattle.disc_toc.specs.OneTrack.{one_track_of, one_track_reading}
-use Rattle.disc_toc.specs.Joined.{broken_file, is_past_end, joined_toc, layout_reading, option_kind, rises, sectors_in, sectors_of, sole_sheet, start_of, track_fault, unless}
+use Rattle.disc_toc.specs.Joined.{broken_file, is_past_end, joined_toc, layout_reading, option_kind, rises_above, sectors_in, file_sectors, sole_sheet, start_of, track_fault, unless}
 
 -- ---- tracks without a fault
 
@@ -25,16 +25,16 @@ no_fault false true x y later none = (refl, refl, none)
 no_fault false false x y later none = cc
 
 first_and_later : (words : List ℕ) (number : ℕ) (before : Option ℕ) (track : CueTrack) (later : List CueTrack) → track_fault words number before (track ∷ later) ≡ None
-    → (is_past_end words track ≡ false) × (rises before (start_of words track) ≡ true) × (track_fault words (number + 1) (Some (start_of words track)) later ≡ None)
+    → (is_past_end words track ≡ false) × (rises_above before (start_of words track) ≡ true) × (track_fault words (number + 1) (Some (start_of words track)) later ≡ None)
 unfolding track_fault
 first_and_later words number before track later none =
-    no_fault (is_past_end words track) (rises before (start_of words track)) (IndexPastEnd number) (StartOrder number) (track_fault words (number + 1) (Some (start_of words track)) later) none
+    no_fault (is_past_end words track) (rises_above before (start_of words track)) (IndexPastEnd number) (StartOrder number) (track_fault words (number + 1) (Some (start_of words track)) later) none
 
 -- a track that begins in its file begins before the end of all files
 starts_inside : (words : List ℕ) (track : CueTrack) → track.file < length words → is_past_end words track ≡ false → start_of words track < sectors_in words
 unfolding start_of sectors_in
 starts_inside words track placed inside =
-    omega (arith, sum_by_more_le sectors_of words track.file 0 placed, leb-false _ _ inside)
+    omega (arith, sum_by_more_le file_sectors words track.file 0 placed, leb-false _ _ inside)
 
 later_placed : {A : Type 0} (P : A → Type 0) (first : A) (later : List A) → All P (first ∷ later) → All P later
 later_placed P first later placed = λ k d inside. placed (suc k) d (omega arith)

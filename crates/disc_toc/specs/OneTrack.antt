@@ -1,6 +1,7 @@
 -- The layout of one file with one track that begins with it.
 use Rattle.std.specs.Prelude.{◌≡◌, ◌==◌, ℕ, ◌/◌, ◌%◌, [], ◌∷◌, Result, Ok, Err, if◌then◌else◌, nat_lt}
 use Rattle.std.specs.Result.{result_map_both}
+use Rattle.rip_basics.specs.Disc.{most_sectors, sector_words}
 use Rattle.disc_toc.specs.declared.layout.Layout.{Layout}
 use Rattle.disc_toc.specs.declared.reading.LayoutKind.{LayoutKind}
 use Rattle.disc_toc.specs.declared.reading.LayoutKind.TheVariants.{NotWholeSectors, IndexPastEnd, TooLong}
@@ -11,10 +12,10 @@ use Rattle.disc_toc.specs.Toc.{Toc, toc_of}
 -- the sectors that a sole file's words are, where its track is a disc
 abbrev pub sectors_reading : ℕ → Result ℕ LayoutKind
 sectors_reading words =
-    if words % 1176 == 0 then
-    (if words / 1176 == 0 then Err (IndexPastEnd 1)
-    else if nat_lt 445500 (words / 1176) then Err (TooLong (words / 1176))
-    else Ok (words / 1176))
+    if words % sector_words == 0 then
+    (if words / sector_words == 0 then Err (IndexPastEnd 1)
+    else if nat_lt most_sectors (words / sector_words) then Err (TooLong (words / sector_words))
+    else Ok (words / sector_words))
     else Err (NotWholeSectors 1)
 
 -- no pregap, and one track that begins with the audio

@@ -3,7 +3,7 @@ ghost use Rattle.std.specs.Prelude.{◌≡◌, ◌≤◌, ◌<◌, All, IfOk, le
 ghost use Rattle.cue_sheet.specs.Reading.{sheet_of};
 ghost use Rattle.cue_sheet.specs.Sheet.{IsPlaced};
 ghost use Rattle.disc_toc.specs.OneTrack.{Answers};
-ghost use Rattle.disc_toc.specs.Joined.{AreShort, broken_file, SectorsRead, layout_reading, rises, sectors_in, start_of, track_fault};
+ghost use Rattle.disc_toc.specs.Joined.{AreShort, broken_file, SectorsRead, layout_reading, rises_above, sectors_in, start_of, track_fault};
 
 use crate::layout::{Layout, Starts99};
 use crate::reading::{LayoutFail, LayoutKind, MOST_SECTORS, SECTOR_WORDS};
@@ -51,7 +51,7 @@ fn start_of(words: &[u64], track: CueTrack) -> u32
 }
 
 fn rises(before: Option<u32>, start: u32) -> bool
-    ensures { result ≡ rises before start }
+    ensures { result ≡ rises_above before start }
 {
     match before {
         Some(before) => before < start,

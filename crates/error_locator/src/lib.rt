@@ -1,10 +1,12 @@
 //! The shortest register that generates syndromes, and the places that it tells.
 #![tactic(auto)]
 
+mod likely;
 mod splitting;
 
 ghost use Rattle.std.specs.Prelude.{◌≡◌, ◌≢◌, ℕ, ◌+◌, ◌<◌, ◌≤◌, ◌↔◌, ◌⊎◌, false, IfSome, IsNone, IsTrue, slice_index};
 ghost use Rattle.gf16_field.specs.Xor.{◌⊕◌, xor_below};
+ghost use Rattle.gf16_field.specs.Column.{longest_column};
 ghost use Rattle.gf16_field.specs.Gf16.{◌⊗◌, alpha_power};
 ghost use Rattle.gf16_poly.specs.Register.{AllWords, Generates, locator, with_one};
 ghost use Rattle.error_locator.specs.Flips.{AreFlips, HaveSyndromes, locator_of};
@@ -15,6 +17,7 @@ ghost use Rattle.error_locator.specs.Walk.{AreTerms, inverse_at};
 
 use gf16_field::{Gf, Tables, add, double, pow_alpha};
 use gf16_poly::{Register, are_words, discrepancy};
+use likely::{beside, likely_roots};
 use splitting::may_split;
 
 /// Coefficient `i` of an older register, shifted and times a factor.
@@ -192,7 +195,7 @@ fn next_root<const P: usize>(
     terms: &mut [u16; P],
     place: u32,
 ) -> u32
-    requires column { c ≤ 44548 }
+    requires column { c ≤ longest_column }
     requires inside { place ≤ c }
     requires terms { AreTerms r.now.len (λ i. slice_index r.now.coef i) (inverse_at c place) (λ i. slice_index terms.old i) }
     ensures inside { result ≤ c }
@@ -224,13 +227,52 @@ pub fn may_have_roots<const P: usize>(field: &Tables, r: &Register<P>) -> bool
     r.len < 2 || may_split(field, r)
 }
 
-/// The places of a column of `c` words, rising, at which the register's polynomial is 0: those `k` where it is 0 at
-/// the inverse of `α^(c - 1 - k)`. None exactly where there are fewer than the register's length, or where that is
-/// above `P / 2`. It takes no memory.
-pub fn roots<const P: usize>(field: &Tables, r: &Register<P>, c: u32) -> Option<Places<P>>
+/// Whether a place is a root: the polynomial's value there.
+fn is_root<const P: usize>(field: &Tables, r: &Register<P>, c: u32, place: u32) -> bool
+    requires column { c ≤ longest_column }
+    requires inside { place < c }
+    ensures { IsTrue result → IsRoot r.now.len (λ i. slice_index r.now.coef i) c place }
+{
+    are_words(&r.coef);
+    let terms = terms_at(field, &r.coef, r.len, field.power(65_536 - c + place));
+    sum(&terms, r.len).0 == 0
+}
+
+/// The roots among some places, if there are as many as the register is long. Places that don't rise are passed over.
+fn roots_among<const P: usize>(
+    field: &Tables,
+    r: &Register<P>,
+    c: u32,
+    likely: &Places<P>,
+) -> Option<Places<P>>
+    requires column { c ≤ longest_column }
+    ensures count { IfSome result (λ places. places.count ≡ r.now.len) }
+    ensures roots { IfSome result (λ places. AreRoots r.now.len (λ i. slice_index r.now.coef i) c places.count (λ i. slice_index places.k i)) }
+{
+    let mut k = [0; P];
+    let mut count = 0;
+    let mut next = 0;
+    for i in 0..likely.count {
+        let place = likely.k[i] as u32;
+        if count == r.len || place < next || c <= place || !is_root(field, r, c, place) {
+            continue;
+        }
+        k[count] = place as u16;
+        count += 1;
+        next = place + 1;
+    }
+    if count == r.len {
+        Some(Places { count, k })
+    } else {
+        None
+    }
+}
+
+// `roots`, by a look at each place of the column.
+fn walk_roots<const P: usize>(field: &Tables, r: &Register<P>, c: u32) -> Option<Places<P>>
     requires size { P ≤ 32 }
     requires some { 0 < c }
-    requires column { c ≤ 44548 }
+    requires column { c ≤ longest_column }
     ensures count { IfSome result (λ places. places.count ≡ r.now.len) }
     ensures half { IfSome result (λ places. r.now.len + r.now.len ≤ P) }
     ensures roots { IfSome result (λ places. AreRoots r.now.len (λ i. slice_index r.now.coef i) c places.count (λ i. slice_index places.k i)) }
@@ -256,4 +298,55 @@ pub fn roots<const P: usize>(field: &Tables, r: &Register<P>, c: u32) -> Option<
         place += 1;
     }
     Some(Places { count, k })
+}
+
+/// The places of a column of `c` words, rising, at which the register's polynomial is 0: those `k` where it is 0 at
+/// the inverse of `α^(c - 1 - k)`. None exactly where there are fewer than the register's length, or where that is
+/// above `P / 2`. It takes no memory.
+pub fn roots<const P: usize>(field: &Tables, r: &Register<P>, c: u32) -> Option<Places<P>>
+    requires size { P ≤ 32 }
+    requires some { 0 < c }
+    requires column { c ≤ longest_column }
+    ensures count { IfSome result (λ places. places.count ≡ r.now.len) }
+    ensures half { IfSome result (λ places. r.now.len + r.now.len ≤ P) }
+    ensures roots { IfSome result (λ places. AreRoots r.now.len (λ i. slice_index r.now.coef i) c places.count (λ i. slice_index places.k i)) }
+    ensures all { IfSome result (λ places. HasAllRoots r.now.len (λ i. slice_index r.now.coef i) c places.count (λ i. slice_index places.k i)) }
+    ensures none { IsNone result ↔ ((P < r.now.len + r.now.len) ⊎ ((n : ℕ) (k : ℕ → ℕ) → AreRoots r.now.len (λ i. slice_index r.now.coef i) c n k → n < r.now.len)) }
+{
+    if P < 2 * r.len {
+        return None;
+    }
+    are_words(&r.coef);
+    let likely = likely_roots(field, r, c);
+    match roots_among(field, r, c, &likely) {
+        Some(places) => Some(places),
+        None => walk_roots(field, r, c),
+    }
+}
+
+/// The same places as [`roots`] answers. It first looks at the places `near`, those of a neighbouring column's errors,
+/// and beside them: where all roots stand there, it is quicker.
+pub fn roots_near<const P: usize>(
+    field: &Tables,
+    r: &Register<P>,
+    c: u32,
+    near: &[u16; P],
+) -> Option<Places<P>>
+    requires size { P ≤ 32 }
+    requires some { 0 < c }
+    requires column { c ≤ longest_column }
+    ensures count { IfSome result (λ places. places.count ≡ r.now.len) }
+    ensures half { IfSome result (λ places. r.now.len + r.now.len ≤ P) }
+    ensures roots { IfSome result (λ places. AreRoots r.now.len (λ i. slice_index r.now.coef i) c places.count (λ i. slice_index places.k i)) }
+    ensures all { IfSome result (λ places. HasAllRoots r.now.len (λ i. slice_index r.now.coef i) c places.count (λ i. slice_index places.k i)) }
+    ensures none { IsNone result ↔ ((P < r.now.len + r.now.len) ⊎ ((n : ℕ) (k : ℕ → ℕ) → AreRoots r.now.len (λ i. slice_index r.now.coef i) c n k → n < r.now.len)) }
+{
+    if 2 * r.len > P {
+        return None;
+    }
+    are_words(&r.coef);
+    match roots_among(field, r, c, &beside(near)) {
+        Some(places) => Some(places),
+        None => roots(field, r, c),
+    }
 }

@@ -2,18 +2,18 @@
 #![tactic(auto)]
 
 ghost use Rattle.std.specs.Prelude.{◌≡◌, ◌≢◌, ℕ, ◌+◌, ◌-◌, ◌<◌, ◌≤◌, ◌↔◌, IfSome, IsNone, IsTrue, length, slice_index};
-ghost use Rattle.gf16_field.specs.Column.{column_sum};
+ghost use Rattle.gf16_field.specs.Column.{column_sum, longest_column};
 ghost use Rattle.gf16_field.specs.Gf16.{◌⊗◌};
 ghost use Rattle.gf16_field.specs.Xor.{◌⊕◌};
 ghost use Rattle.gf16_poly.specs.Register.{AllWords};
 ghost use Rattle.error_locator.specs.Flips.{locator_of};
 ghost use Rattle.error_locator.specs.Roots.{AreRoots};
-ghost use Rattle.error_values.specs.Column.{nonzero_below};
+ghost use Rattle.error_values.specs.Column.{apart};
 ghost use Rattle.error_values.specs.Division.{dividend_at, divisor_at};
 ghost use Rattle.error_values.specs.ErrorList.{IsErrorList};
 
-use error_locator::{Places, locate, may_have_roots, roots};
-use gf16_field::{Gf, Tables, add, pow_alpha};
+use error_locator::{Places, locate, may_have_roots, roots_near};
+use gf16_field::{Gf, Tables, add};
 use gf16_poly::{Register, are_words};
 
 /// Errors in a column: `count` places `k`, rising, each with the flip that was exclusive-ored into its word.
@@ -53,7 +53,7 @@ fn flips<const P: usize>(
     places: &Places<P>,
     c: u32,
 ) -> [u16; P]
-    requires column { c ≤ 44548 }
+    requires column { c ≤ longest_column }
     requires count { places.now.count ≡ r.now.len }
     requires roots { AreRoots r.now.len (λ i. slice_index r.now.coef i) c places.now.count (λ i. slice_index places.now.k i) }
     ensures { (i : ℕ) → i < places.now.count → slice_index result i ⊗ divisor_at r.now.len (λ i. slice_index r.now.coef i) (locator_of c (slice_index places.now.k i))
@@ -62,7 +62,7 @@ fn flips<const P: usize>(
     are_words(&r.coef);
     let mut flip = [0; P];
     for i in 0..places.count {
-        let x = pow_alpha(c - 1 - places.k[i] as u32);
+        let x = field.power(c - 1 - places.k[i] as u32);
         flip[i] = flip_at(field, r, s, x).0;
     }
     flip
@@ -84,7 +84,26 @@ pub fn may_decode<const P: usize>(field: &Tables, s: [u16; P]) -> bool
 pub fn decode_column<const P: usize>(field: &Tables, s: [u16; P], c: u32) -> Option<Errors<P>>
     requires size { P ≤ 32 }
     requires some { 0 < c }
-    requires column { c ≤ 44548 }
+    requires column { c ≤ longest_column }
+    ensures found { IfSome result (λ errors. IsErrorList P c (λ i. slice_index s.entry i) errors.count (λ i. slice_index errors.k i) (λ i. slice_index errors.flip i)) }
+    ensures only { IfSome result (λ errors. (e : ℕ) (k flip : ℕ → ℕ) → IsErrorList P c (λ i. slice_index s.entry i) e k flip
+        → (errors.count ≡ e) × ((i : ℕ) → i < e → (slice_index errors.k i ≡ k i) × (slice_index errors.flip i ≡ flip i))) }
+    ensures none { IsNone result ↔ ((e : ℕ) (k flip : ℕ → ℕ) → IsErrorList P c (λ i. slice_index s.entry i) e k flip → ⊥) }
+{
+    decode_column_near(field, s, c, &[0; P])
+}
+
+/// The same list as [`decode_column`] answers. It first looks at the places `near`, those of a neighbouring column's
+/// errors, and beside them: where all errors stand there, it is quicker. It takes no memory.
+pub fn decode_column_near<const P: usize>(
+    field: &Tables,
+    s: [u16; P],
+    c: u32,
+    near: &[u16; P],
+) -> Option<Errors<P>>
+    requires size { P ≤ 32 }
+    requires some { 0 < c }
+    requires column { c ≤ longest_column }
     ensures found { IfSome result (λ errors. IsErrorList P c (λ i. slice_index s.entry i) errors.count (λ i. slice_index errors.k i) (λ i. slice_index errors.flip i)) }
     ensures only { IfSome result (λ errors. (e : ℕ) (k flip : ℕ → ℕ) → IsErrorList P c (λ i. slice_index s.entry i) e k flip
         → (errors.count ≡ e) × ((i : ℕ) → i < e → (slice_index errors.k i ≡ k i) × (slice_index errors.flip i ≡ flip i))) }
@@ -93,7 +112,7 @@ pub fn decode_column<const P: usize>(field: &Tables, s: [u16; P], c: u32) -> Opt
     are_words(&s);
     let register = locate(field, s);
     are_words(&register.coef);
-    let places = roots(field, &register, c)?;
+    let places = roots_near(field, &register, c, near)?;
     let flip = flips(field, &register, &s, &places, c);
     are_words(&flip);
     let Places { count, k } = places;
@@ -104,5 +123,5 @@ pub fn decode_column<const P: usize>(field: &Tables, s: [u16; P], c: u32) -> Opt
 /// `count` places.
 pub fn laws()
     ensures { (count c : ℕ) (v w : ℕ → ℕ) → c ≤ 65535 → AllWords v → AllWords w → ((m : ℕ) → m < count → column_sum m c v ≡ column_sum m c w)
-        → nonzero_below c (λ k. v k ⊕ w k) ≤ count → (k : ℕ) → k < c → v k ≡ w k }
+        → apart c v w ≤ count → (k : ℕ) → k < c → v k ≡ w k }
 {}

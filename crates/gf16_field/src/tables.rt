@@ -1,11 +1,11 @@
 // Products and inverses by tables of logarithms.
 
-ghost use Rattle.std.specs.Prelude.{◌≡◌, ◌≢◌, ℕ, ◌+◌, ◌↔◌, IfOk, IfSome, IsNone, length, vec_len};
-ghost use Rattle.gf16_field.specs.Gf16.{◌⊗◌, IsProduct};
+ghost use Rattle.std.specs.Prelude.{◌≡◌, ◌≢◌, ℕ, ◌+◌, ◌<◌, ◌↔◌, IfOk, IfSome, IsNone, length, vec_len};
+ghost use Rattle.gf16_field.specs.Gf16.{◌⊗◌, IsProduct, alpha_power};
 ghost use Rattle.gf16_field.specs.Logs.{AreLogs, ArePowers};
 
 use crate::{Gf, double};
-use rip_outside::Oom;
+use rip_basics::Oom;
 use std::alloc::{AllocError, Global};
 
 /// Tables by which a product or an inverse takes a few look-ups.
@@ -55,8 +55,8 @@ fn set_logs(log: &mut [u16], exp: &[u16])
 impl Tables {
     /// Makes the tables: 65,536 logarithms and 131,070 powers. `Oom` where memory was refused.
     pub fn new(alloc: Global) -> Result<Tables, Oom> {
-        let exp = powers(alloc, 131_070).map_err(|_| Oom)?;
-        let mut log = zeros(alloc, 65_536).map_err(|_| Oom)?;
+        let exp = powers(alloc, 131_070)?;
+        let mut log = zeros(alloc, 65_536)?;
         set_logs(&mut log, &exp);
         Ok(Tables { log, exp })
     }
@@ -72,6 +72,14 @@ impl Tables {
         let i = self.log[a.0 as usize] as usize;
         let j = self.log[b.0 as usize] as usize;
         Gf(self.exp[i + j])
+    }
+
+    /// α taken `n` times, as [`crate::pow_alpha`] answers it. It takes no memory.
+    pub fn power(&self, n: u32) -> Gf
+        requires { n < 131070 }
+        ensures { result.0 ≡ alpha_power n }
+    {
+        Gf(self.exp[n as usize])
     }
 
     /// The word whose product with `a` is 1, and None exactly for 0. It takes no memory.

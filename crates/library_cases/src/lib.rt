@@ -1,22 +1,18 @@
-//! Worked cases of the libraries below the commands: sheets, layouts, ids, sums, records, WAV files, images in pieces,
-//! parity at each start, and printed texts.
+//! Cases that a script of commands can't say: readers by themselves, images that are read and written in pieces, how much
+//! a run reads, what a stop leaves, and a text that no run prints.
 #![tactic(auto)]
 
 #[cfg(test)]
-mod ids;
+mod crashes;
 #[cfg(test)]
-mod inputs;
+mod made;
 #[cfg(test)]
-mod layouts;
+mod mending;
 #[cfg(test)]
 mod pieces;
 #[cfg(test)]
-mod records;
+mod readers;
 #[cfg(test)]
-mod sheets;
-#[cfg(test)]
-mod sums;
+mod runs;
 #[cfg(test)]
 mod texts;
-#[cfg(test)]
-mod wavs;

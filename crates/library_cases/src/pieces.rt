@@ -4,9 +4,9 @@ ghost use Rattle.std.specs.FinMap.{get};
 ghost use Rattle.image_mender.specs.Joined.{AreInFiles};
 ghost use Rattle.library_cases.specs.Parts.{two_parts};
 
+use crate::made::wav;
 use column_map::Fix;
 use image_mender::{Image, Part, write_mended};
-use made_discs::wav;
 use rip_memory::{MemoryShelf, fill};
 use rip_outside::Name;
 use std::alloc::Global;

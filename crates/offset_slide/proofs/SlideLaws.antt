@@ -3,9 +3,9 @@ use Rattle.std.proofs.Common.{◌≡◌, ℕ, ◌+◌, ◌*◌, ◌<◌, List, [
 use Rattle.std.specs.Prelude.{Some, slice_get}
 use Rattle.std.proofs.lemmas.Option.{get_or_from_slice_get}
 use Rattle.column_map.specs.Columns.{IsSectorCount, per_column, stride}
-use Rattle.syndrome_stream.specs.Parity.{image_parity, parity_at}
+use Rattle.syndrome_stream.specs.Parity.{parity_at}
 use Rattle.syndrome_stream.proofs.ParityLaws.{get_or-image_parity}
-use Rattle.offset_slide.specs.Edges.{EdgesStandFor, KeptEdges}
+use Rattle.offset_slide.specs.Edges.{KeptEdges}
 use Rattle.offset_slide.specs.Slides.{TableAndEdgesStandFor}
 
 -- a row of the table is the parity at its column's start
@@ -24,12 +24,3 @@ pub back_word : (count i word : ℕ) (rows : List (List ℕ)) (kept : KeptEdges)
     → word ≡ get_or kept.back i 0 → word ≡ get_or y (i + per_column kept.sectors * stride) 0
 back_word count i word rows kept y stand size l here =
     here ∙ stand.edges.back i l (omega (arith, stand.image.whole, size.0, size.1)) ∙ ap (λ k. get_or y k 0) (omega arith)
-
--- a table that is the parity of an image, and edges to which all of its words came
-pub stand_together : (count sectors : ℕ) (rows : List (List ℕ)) (kept : KeptEdges) (y : List ℕ) → rows ≡ image_parity count (per_column sectors) y → EdgesStandFor kept y
-    → kept.sectors ≡ sectors → kept.position ≡ 1176 * sectors → TableAndEdgesStandFor count rows kept y
-stand_together count sectors rows kept y parity edges same whole = record {
-  image = record { words = edges.words; whole = omega (arith, edges.position) };
-  table = parity ∙ ap (λ s. image_parity count (per_column s) y) (sym same);
-  edges = edges;
-}

@@ -2,6 +2,7 @@
 use Rattle.std.specs.Prelude.{◌≡◌, ℕ, ◌+◌, ◌-◌, ◌*◌, ◌<◌, ◌≤◌, List, length, slice_index}
 use Rattle.column_map.specs.Columns.{IsSectorCount, per_column, stride}
 use Rattle.column_map.specs.Image.{AreWords}
+use Rattle.rip_basics.specs.Disc.{sector_words}
 
 -- the sectors of the image, how many of its words have come, the words of its first two strides, and those of the two
 -- strides whose numbers are the number of words of a column and the next
@@ -19,10 +20,12 @@ pub record EdgesStandFor (kept : KeptEdges) (y : List ℕ) : Type 0 where
   pub front : (i : ℕ) → i < 2 * stride → i < length y → slice_index kept.front i ≡ slice_index y i
   pub back : (i : ℕ) → i < 2 * stride → per_column kept.sectors * stride + i < length y → slice_index kept.back i ≡ slice_index y (per_column kept.sectors * stride + i)
 
+-- ---- the code's own: functions inside the crate say it of their steps, and no public contract does
+
 -- the fields of edges: the sectors of the image, how many words have come, and how many are kept of the front and of the back
 pub record AreEdges (sectors position front back : ℕ) : Type 0 where
   pub size : IsSectorCount sectors
-  pub room : position ≤ 1176 * sectors
+  pub room : position ≤ sector_words * sectors
   pub first : front ≡ 2 * stride
   pub last : back ≡ 2 * stride
 

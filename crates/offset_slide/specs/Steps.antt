@@ -1,4 +1,5 @@
 -- The factors of a step from one start to that a stride later, or back.
+-- The code's own: functions inside the crate say it of their steps, and no public contract does.
 use Rattle.std.specs.Prelude.{◌≡◌, ℕ, ◌-◌, ◌<◌, List, slice_index}
 use Rattle.gf16_field.specs.Gf16.{alpha_power, power}
 

@@ -1,11 +1,12 @@
 // The words of an image that leave and enter where the columns of a rip begin a stride earlier or later.
 ghost use Rattle.std.specs.Prelude.{◌≡◌, ℕ, ◌+◌, ◌*◌, ◌^◌, ◌<◌, ◌≤◌, ◌++◌, List, [], IfOk, length, slice_index, vec_len};
+ghost use Rattle.rip_basics.specs.Disc.{sector_words};
 ghost use Rattle.column_map.specs.Columns.{IsSectorCount, per_column, stride};
 ghost use Rattle.offset_slide.specs.Edges.{EdgesStandFor, TakesPart};
 
 use crate::STRIDE;
 use column_map::Shape;
-use rip_outside::Oom;
+use rip_basics::Oom;
 use std::alloc::Global;
 use std::marker::Model;
 
@@ -36,10 +37,7 @@ impl Model for Edges {
 fn two_strides(alloc: Global) -> Result<Vec<u16>, Oom>
     ensures { IfOk result (λ words. vec_len words ≡ 2 * stride) }
 {
-    match vec![in alloc; 0u16; 2 * STRIDE] {
-        Ok(words) => Ok(words),
-        Err(_) => Err(Oom),
-    }
+    Ok(vec![in alloc; 0u16; 2 * STRIDE]?)
 }
 
 // Takes words that stand in the image from `position` on into `kept`, which stands there from `first` on.
@@ -75,7 +73,7 @@ impl Edges {
 
     /// Takes the next words of the image in, of which there are no more in all than the image has. It takes no memory.
     pub fn absorb(&mut self, words: &[u16])
-        requires { self.old.position + length words.now ≤ 1176 * self.old.sectors }
+        requires { self.old.position + length words.now ≤ sector_words * self.old.sectors }
         ensures sectors { self.new.sectors ≡ self.old.sectors }
         ensures position { self.new.position ≡ self.old.position + length words.now }
         ensures stands { (y : List ℕ) → EdgesStandFor self.old y → EdgesStandFor self.new (y ++ words.now) }

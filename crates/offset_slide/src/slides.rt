@@ -11,7 +11,7 @@ use crate::edges::Edges;
 use crate::steps::Steps;
 use column_map::Shape;
 use gf16_field::Tables;
-use rip_outside::Oom;
+use rip_basics::Oom;
 use std::alloc::Global;
 use std::marker::Model;
 use syndrome_stream::{Starts, Table};
@@ -85,9 +85,7 @@ impl<const P: usize> Slides<P> {
     {
         let shape = edges.shape();
         let steps = Steps::of(field, &shape);
-        let Ok(mut rows) = Vec::with_capacity(alloc, PAST - FIRST) else {
-            return Err(Oom);
-        };
+        let mut rows = Vec::with_capacity(alloc, PAST - FIRST)?;
         for a in FIRST..PAST {
             rows.push_reserved(row_at(field, &steps, &table, &edges, a));
         }

@@ -1,14 +1,3 @@
-pub mod CommandLaws
-pub mod Headline
-pub mod Leaving
 pub mod Ending
-pub mod OneOutcome
-pub mod PickLaws
-pub mod PieceLaws
-pub mod StepLaws
+pub mod Headline
 pub mod StoredLaws
-pub mod TakingLaws
-pub mod OpeningLaws
-pub mod SummingLaws
-pub mod TrialLaws
-pub mod QuietLaws

@@ -1,13 +1,13 @@
 // Opening a rip by its name.
-ghost use Rattle.std.specs.Prelude.{◌≡◌, ◌*◌, All, Contains, length, IfOk, IfSome};
-ghost use Rattle.rip_outside.specs.Causes.{KeepsWriteCounts, NoneFell};
+ghost use Rattle.std.specs.Prelude.{◌≡◌, ◌*◌, All, Contains, length, IfOk, IfSome, IsTrue};
+ghost use Rattle.rip_outside.specs.Reading.{OnlyReads};
 ghost use Rattle.cue_sheet.specs.Reading.{sheet_of};
 ghost use Rattle.disc_toc.specs.OneTrack.{Answers};
 ghost use Rattle.disc_toc.specs.Joined.{layout_reading};
 ghost use Rattle.image_mender.specs.Joined.{AreInFiles, word_count};
 ghost use Rattle.image_mender.specs.declared.image.Part.{Part};
-ghost use Rattle.rip_inputs.specs.Opening.{lengths_of, names_read, rip_reading};
-ghost use Rattle.rip_inputs.specs.Telling.{FaultHasCause, IsShort, Opens, TakesWithin, counts_of};
+ghost use Rattle.rip_inputs.specs.Opening.{IsTooLong, is_sheet, lengths_of, names_read, rip_reading};
+ghost use Rattle.rip_inputs.specs.Telling.{OpeningHasCause, IsShort, OpensRip, OpeningTakes, counts_of};
 
 use crate::naming::names_read;
 use crate::rip::{Rip, RipFail};
@@ -43,22 +43,22 @@ fn lay_out(alloc: Global, cue: &Cue, parts: &[Part]) -> Result<Layout, LayoutFai
     }
 }
 
-/// Opens the rip of this name: the layout of its disc, its words, and the names of the files that were read. A name that
+/// OpensRip the rip of this name: the layout of its disc, its words, and the names of the files that were read. A name that
 /// ends in `.cue`, in any case of its letters, is that of a cue sheet, whose files' names stand behind its folder unless
 /// they begin with `/`. Any other is that of one WAV file, which is one track.
 ///
 /// The first refusal is answered: of the sheet, which has at most 1,048,576 bytes, of the WAV files in their order, or of
-/// the layout. It only reads, and takes no more bytes of the shelf than the files have that are read.
+/// the layout. It only reads, and takes no more bytes of the shelf than the files have that are read; a longer sheet isn't
+/// read at all.
 pub fn open_rip<S: Shelf>(alloc: Global, shelf: &mut S, input: &str) -> Result<Rip, RipFail>
-    ensures answer { IfSome (S.held shelf.old) (λ files. Opens result files (rip_reading input.now files)) }
+    ensures answer { IfSome (S.held shelf.old) (λ files. OpensRip result files (rip_reading input.now files)) }
     ensures inside { IfSome (S.held shelf.old) (λ files. IfOk result (λ rip. AreInFiles rip.image files)) }
     ensures count { IfOk result (λ rip. word_count rip.image ≡ 1176 * rip.layout.sectors) }
     ensures named { IfOk result (λ rip. All (λ (part : Part). Contains rip.names part.name) rip.image) }
-    ensures same { S.held shelf.new ≡ S.held shelf.old }
-    ensures cause { FaultHasCause (S.faults shelf.old) (S.faults shelf.new) result }
-    ensures others { KeepsWriteCounts (S.faults shelf.old) (S.faults shelf.new) }
-    ensures later { NoneFell (S.faults shelf.old) (S.faults shelf.new) }
-    ensures taken { TakesWithin (S.held shelf.old) (λ files. lengths_of (names_read input.now files) files) result (S.taken shelf.old) (S.taken shelf.new) }
+    ensures only { OnlyReads S.Shelf shelf.old shelf.new }
+    ensures cause { OpeningHasCause (S.faults shelf.old) (S.faults shelf.new) result }
+    ensures taken { OpeningTakes (S.held shelf.old) (λ files. lengths_of (names_read input.now files) files) result (S.taken shelf.old) (S.taken shelf.new) }
+    ensures unread { IfSome (S.held shelf.old) (λ files. IsTrue (is_sheet input.now) → IsTooLong input.now files → S.taken shelf.new ≡ S.taken shelf.old) }
 {
     let cue = open_disc_sheet(alloc, shelf, input)?;
     let parts = open_wavs(alloc, shelf, cue.files.as_slice())?;

@@ -1,7 +1,7 @@
 // Named files in memory.
 ghost use Rattle.std.specs.Prelude.{◌≡◌, ◌≢◌, ◌+◌, ◌≤◌, length, slice_range, OnOk, OnErr};
 ghost use Rattle.std.specs.Option.{option_copied, option_map};
-ghost use Rattle.std.specs.FinMap.{get, empty};
+ghost use Rattle.std.specs.FinMap.{get, empty, remove};
 ghost use Rattle.rip_outside.specs.Files.{IsHeld, bytes_at, after_make, after_append, after_rename};
 
 use std::alloc::{AllocError, Global};
@@ -17,13 +17,13 @@ pub struct FileTable {
 
 impl Model for FileTable {
     ghost use Rattle.rip_outside.specs.Files.{Files, files_code};
-    ghost use Rattle.rip_memory.specs.FileTable.{files_of};
+    ghost use Rattle.rip_memory.specs.FileTable.{files_in};
 
     ghost Value = { Files };
 
     ghost coded = { files_code };
 
-    ghost view = { λ table. files_of table.files.entries };
+    ghost view = { λ table. files_in table.files.entries };
 }
 
 // Fills the buffer with the bytes from a place on.
@@ -93,6 +93,13 @@ impl FileTable {
             file.extend_from_slice(bytes)?;
         }
         Ok(())
+    }
+
+    /// Takes a file away.
+    pub fn remove(&mut self, name: &str)
+        ensures { self.new ≡ remove self.old name.now }
+    {
+        self.files.remove(name);
     }
 
     /// Gives a file another name. After want of memory nothing is changed.

@@ -7,6 +7,7 @@ ghost use Rattle.rip_outside.specs.Causes.{HasCause};
 ghost use Rattle.rip_memory.specs.Listed.{is_due, counted_down};
 ghost use Rattle.rip_memory.specs.Filling.{first_half};
 ghost use Rattle.rip_outside.specs.Files.{AppendsPrefix, IsHeld, bytes_at, after_make, after_append, after_rename};
+ghost use Rattle.rip_outside.specs.Crashes.Outlook.{Untold};
 
 use crate::file_table::FileTable;
 use crate::listed::{Listed, count_down};
@@ -109,7 +110,7 @@ impl MemoryShelf {
 }
 
 impl Shelf for MemoryShelf {
-    ghost use Rattle.rip_memory.specs.MemoryFiles.{begun, more_taken};
+    ghost use Rattle.rip_memory.specs.MemoryFiles.{call_begun, taken_after};
 
     ghost held = { λ s. Some s.files };
 
@@ -117,10 +118,12 @@ impl Shelf for MemoryShelf {
 
     ghost taken = { λ s. s.taken };
 
+    ghost crashes = { λ _. Untold };
+
     fn size(&mut self, name: &str) -> Result<Option<u64>, Fault>
         ensures value { IfOk result (λ size. size ≡ option_map length (get self.old.files name.now)) }
         ensures listed { IsErr result ↔ IsTrue (is_due ShelfCall.Size self.old.listed) }
-        ensures after { self.new ≡ begun ShelfCall.Size self.old }
+        ensures after { self.new ≡ call_begun ShelfCall.Size self.old }
         ensures cause { HasCause ShelfCall.Size (count_of self.old.faults) (count_of self.new.faults) (IsErr result) }
     {
         if begin(&mut self.faults, &mut self.listed, ShelfCall::Size) {
@@ -131,9 +134,9 @@ impl Shelf for MemoryShelf {
 
     fn read_at(&mut self, name: &str, at: u64, buf: &mut [u8]) -> Result<(), Fault>
         requires { at + length buf.old ≤ length (bytes_at name.now self.old.files) }
-        ensures ok { OnOk result (self.new ≡ record (begun ShelfCall.ReadAt self.old) { taken = more_taken self.old.taken (length buf.old) }) }
+        ensures ok { OnOk result (self.new ≡ record (call_begun ShelfCall.ReadAt self.old) { taken = taken_after self.old.taken (length buf.old) }) }
         ensures bytes { OnOk result (buf.new ≡ slice_range (bytes_at name.now self.old.files) at (at + length buf.old)) }
-        ensures err { OnErr result (self.new ≡ begun ShelfCall.ReadAt self.old) }
+        ensures err { OnErr result (self.new ≡ call_begun ShelfCall.ReadAt self.old) }
         ensures listed { IsErr result ↔ IsTrue (is_due ShelfCall.ReadAt self.old.listed) }
         ensures cause { HasCause ShelfCall.ReadAt (count_of self.old.faults) (count_of self.new.faults) (IsErr result) }
         ensures more { self.old.taken ≤ self.new.taken }
@@ -147,8 +150,8 @@ impl Shelf for MemoryShelf {
     }
 
     fn make(&mut self, name: &str) -> Result<(), ShelfFail>
-        ensures ok { OnOk result (self.new ≡ record (begun ShelfCall.Make self.old) { files = after_make name.now self.old.files }) }
-        ensures err { OnErr result (self.new ≡ begun ShelfCall.Make self.old) }
+        ensures ok { OnOk result (self.new ≡ record (call_begun ShelfCall.Make self.old) { files = after_make name.now self.old.files }) }
+        ensures err { OnErr result (self.new ≡ call_begun ShelfCall.Make self.old) }
         ensures listed { IsErrOf result ShelfFail.Failed ↔ IsTrue (is_due ShelfCall.Make self.old.listed) }
         ensures cause { HasCause ShelfCall.Make (count_of self.old.faults) (count_of self.new.faults) (IsErrOf result ShelfFail.Failed) }
     {
@@ -160,9 +163,9 @@ impl Shelf for MemoryShelf {
 
     fn append(&mut self, name: &str, bytes: &[u8]) -> Result<(), ShelfFail>
         requires { IsHeld name.now self.old.files }
-        ensures ok { OnOk result (self.new ≡ record (begun ShelfCall.Append self.old) { files = after_append name.now bytes.now self.old.files }) }
-        ensures failed { IsErrOf result ShelfFail.Failed → self.new ≡ record (begun ShelfCall.Append self.old) { files = after_append name.now (first_half bytes.now) self.old.files } }
-        ensures oom { IsErrOf result ShelfFail.Oom → self.new ≡ begun ShelfCall.Append self.old }
+        ensures ok { OnOk result (self.new ≡ record (call_begun ShelfCall.Append self.old) { files = after_append name.now bytes.now self.old.files }) }
+        ensures failed { IsErrOf result ShelfFail.Failed → self.new ≡ record (call_begun ShelfCall.Append self.old) { files = after_append name.now (first_half bytes.now) self.old.files } }
+        ensures oom { IsErrOf result ShelfFail.Oom → self.new ≡ call_begun ShelfCall.Append self.old }
         ensures listed { IsErrOf result ShelfFail.Failed → IsTrue (is_due ShelfCall.Append self.old.listed) }
         ensures unlisted { OnOk result (is_due ShelfCall.Append self.old.listed ≡ false) }
         ensures cause { HasCause ShelfCall.Append (count_of self.old.faults) (count_of self.new.faults) (IsErrOf result ShelfFail.Failed) }
@@ -175,7 +178,7 @@ impl Shelf for MemoryShelf {
     }
 
     fn sync(&mut self, _name: &str) -> Result<(), Fault>
-        ensures after { self.new ≡ begun ShelfCall.Sync self.old }
+        ensures after { self.new ≡ call_begun ShelfCall.Sync self.old }
         ensures listed { IsErr result ↔ IsTrue (is_due ShelfCall.Sync self.old.listed) }
         ensures cause { HasCause ShelfCall.Sync (count_of self.old.faults) (count_of self.new.faults) (IsErr result) }
     {
@@ -188,8 +191,8 @@ impl Shelf for MemoryShelf {
     fn rename(&mut self, from: &str, to: &str) -> Result<(), ShelfFail>
         requires held { IsHeld from.now self.old.files }
         requires differ { from.now ≢ to.now }
-        ensures ok { OnOk result (self.new ≡ record (begun ShelfCall.Rename self.old) { files = after_rename from.now to.now self.old.files }) }
-        ensures err { OnErr result (self.new ≡ begun ShelfCall.Rename self.old) }
+        ensures ok { OnOk result (self.new ≡ record (call_begun ShelfCall.Rename self.old) { files = after_rename from.now to.now self.old.files }) }
+        ensures err { OnErr result (self.new ≡ call_begun ShelfCall.Rename self.old) }
         ensures listed { IsErrOf result ShelfFail.Failed ↔ IsTrue (is_due ShelfCall.Rename self.old.listed) }
         ensures cause { HasCause ShelfCall.Rename (count_of self.old.faults) (count_of self.new.faults) (IsErrOf result ShelfFail.Failed) }
     {
@@ -198,4 +201,6 @@ impl Shelf for MemoryShelf {
         }
         self.files.rename(from, to).map_err(|_| ShelfFail::Oom)
     }
+
+    ghost tells_held = { λ _. tt };
 }

@@ -1,4 +1,6 @@
 pub mod Causes
 pub mod Counts
+pub mod Crashes
 pub mod Files
-pub mod Seen
+pub mod Outputs
+pub mod Reading

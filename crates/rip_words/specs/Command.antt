@@ -1,5 +1,5 @@
 -- The words of the command line.
-use Rattle.std.specs.Prelude.{None, ◌≡◌, ℕ, ◌+◌, ◌==◌, ◌&&◌, nat_eq, nat_le, ◌≤◌, Bool, false, not, List, [], ◌∷◌, ◌++◌, length, drop, Result, Ok, Err, codes, map, String, if◌then◌else◌, Option, Some, unwrap_or, ℤ}
+use Rattle.std.specs.Prelude.{None, ◌≡◌, ℕ, ◌+◌, ◌==◌, ◌&&◌, nat_eq, nat_le, ◌≤◌, Bool, false, not, List, [], ◌∷◌, length, drop, Result, Ok, Err, codes, map, String, if◌then◌else◌, Option, Some, unwrap_or, ℤ}
 use Rattle.std.specs.List.{starts_with}
 use Rattle.std.specs.Str.{all_ascii_digits, bytes_eq}
 use Rattle.std.specs.Str.Parse.{digits_value, signed_digits_value, without_leading_sign}
@@ -8,8 +8,8 @@ use Rattle.std.specs.declared.alloc.Global.{Global}
 use Rattle.column_map.specs.Columns.{IsOffset}
 use Rattle.rip_words.specs.declared.Command.{Command}
 use Rattle.rip_words.specs.declared.Command.TheVariants.{Register, Verify, Offsets, Repair, Sums, Trial}
-use Rattle.rip_words.specs.declared.Npar.{Npar}
-use Rattle.rip_words.specs.declared.Npar.TheVariants.{Four, Eight, Sixteen}
+use Rattle.column_map.specs.declared.npar.Npar.{Npar}
+use Rattle.column_map.specs.declared.npar.Npar.TheVariants.{Four, Eight, Sixteen}
 use Rattle.rip_words.specs.declared.Verb.{Verb}
 use Rattle.rip_words.specs.declared.Verb.TheVariants.{Register as ToRegister, Verify as ToVerify, Offsets as ToOffsets, Repair as ToRepair}
 use Rattle.rip_words.specs.declared.WordsFail.{WordsFail}
@@ -22,12 +22,6 @@ texts words = map string_bytes words
 abbrev pub is_name : List ℕ → Bool
 is_name [] = false
 is_name (first ∷ rest) = not (first == 45)
-
--- how many parity words there are for each column
-abbrev pub parity_words : Npar → ℕ
-parity_words Four = 4
-parity_words Eight = 8
-parity_words Sixteen = 16
 
 -- ---- the options
 
@@ -167,10 +161,10 @@ command_reading (first ∷ rest) =
     else verb_words (verb_of first) rest
 
 -- what is read is the meaning of the words
-abbrev pub Reads : {A : Type 0} → Result A WordsFail → Result A ℕ → Type 0
-Reads (Ok read) meaning = meaning ≡ Ok read
-Reads (Err (Usage word)) meaning = meaning ≡ Err word
-Reads (Err Oom) meaning = Unit {0}
+abbrev pub ReadsWords : {A : Type 0} → Result A WordsFail → Result A ℕ → Type 0
+ReadsWords (Ok read) meaning = meaning ≡ Ok read
+ReadsWords (Err (Usage word)) meaning = meaning ≡ Err word
+ReadsWords (Err Oom) meaning = Unit {0}
 
 -- the offset that a command gives the rip
 abbrev pub offset_in : Command → Option ℤ
@@ -196,7 +190,3 @@ TrialIsInRange (Offsets input rec) = Unit {0}
 TrialIsInRange (Repair input rec to offset) = Unit {0}
 TrialIsInRange (Sums input) = Unit {0}
 TrialIsInRange (Trial sectors seed shift hits) = IsTrial sectors shift hits
-
--- the name under which an output is made before it gets its own
-abbrev pub part_of : List ℕ → List ℕ
-part_of name = name ++ codes ".part"

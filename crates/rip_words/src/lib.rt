@@ -5,18 +5,11 @@ ghost use Rattle.std.specs.Prelude.{◌≡◌, ◌<◌, ◌≤◌, ◌^◌, ◌+
 ghost use Rattle.std.specs.Str.Parse.{without_leading_sign};
 ghost use Rattle.std.specs.String.{string_bytes};
 ghost use Rattle.column_map.specs.Columns.{IsOffset};
-ghost use Rattle.rip_words.specs.Command.{Reads, TrialIsInRange, command_reading, command_words, hits_of, input_words, is_name, last_option, no_word, npar_option, number_of, offset_in, offset_of, offset_option, option_words, out_words, record_words, sectors_of, seed_of, sums_words, texts, trial_words, verb_of};
+ghost use Rattle.rip_words.specs.Command.{ReadsWords, TrialIsInRange, command_reading, command_words, hits_of, input_words, is_name, last_option, no_word, npar_option, number_of, offset_in, offset_of, offset_option, option_words, out_words, record_words, sectors_of, seed_of, sums_words, texts, trial_words, verb_of};
 
-use rip_outside::Name;
+pub use column_map::Npar;
+use rip_basics::Name;
 use std::alloc::Global;
-
-/// How many parity words there are to be for each column.
-#[derive(Clone, Copy, Debug, PartialEq, Eq)]
-pub enum Npar {
-    Four,
-    Eight,
-    Sixteen,
-}
 
 /// What the words ask for.
 #[derive(Debug, Drop, PartialEq, Eq)]
@@ -188,7 +181,7 @@ fn hits_of(word: &str) -> Option<u32>
 // The option that stands at this index, once it was read: nothing may stand after it.
 fn last_option<A: Copy>(at: u32, option: Option<A>, rest: &[String]) -> Result<Option<A>, WordsFail>
     requires { at + 1 < 2 ^ 32 }
-    ensures value { Reads result (last_option at option (texts rest.now)) }
+    ensures value { ReadsWords result (last_option at option (texts rest.now)) }
     ensures kept { IfOk result (λ kept. kept ≡ option) }
 {
     match (option, rest) {
@@ -201,7 +194,7 @@ fn last_option<A: Copy>(at: u32, option: Option<A>, rest: &[String]) -> Result<O
 // The words from this index on, where an option on the parity words may stand.
 fn read_npar(at: u32, words: &[String]) -> Result<Option<Npar>, WordsFail>
     requires { at + 1 < 2 ^ 32 }
-    ensures { Reads result (option_words npar_option at (texts words.now)) }
+    ensures { ReadsWords result (option_words npar_option at (texts words.now)) }
 {
     match words {
         [] => Ok(None),
@@ -212,7 +205,7 @@ fn read_npar(at: u32, words: &[String]) -> Result<Option<Npar>, WordsFail>
 // The words from this index on, where an offset may stand.
 fn read_offset(at: u32, words: &[String]) -> Result<Option<i32>, WordsFail>
     requires { at + 1 < 2 ^ 32 }
-    ensures value { Reads result (option_words offset_option at (texts words.now)) }
+    ensures value { ReadsWords result (option_words offset_option at (texts words.now)) }
     ensures range { IfOk result (λ offset. IfSome offset IsOffset) }
 {
     match words {
@@ -228,7 +221,7 @@ fn read_out(
     rec: &String,
     words: &[String],
 ) -> Result<Command, WordsFail>
-    ensures value { Reads result (out_words (string_bytes input.now) (string_bytes rec.now) (texts words.now)) }
+    ensures value { ReadsWords result (out_words (string_bytes input.now) (string_bytes rec.now) (texts words.now)) }
     ensures range { IfOk result (λ read. IfSome (offset_in read) IsOffset) }
     ensures trial { IfOk result TrialIsInRange }
 {
@@ -257,7 +250,7 @@ fn read_command(
     rec: &String,
     words: &[String],
 ) -> Result<Command, WordsFail>
-    ensures value { Reads result (command_words verb (string_bytes input.now) (string_bytes rec.now) (texts words.now)) }
+    ensures value { ReadsWords result (command_words verb (string_bytes input.now) (string_bytes rec.now) (texts words.now)) }
     ensures range { IfOk result (λ read. IfSome (offset_in read) IsOffset) }
     ensures trial { IfOk result TrialIsInRange }
 {
@@ -296,7 +289,7 @@ fn read_record(
     input: &String,
     words: &[String],
 ) -> Result<Command, WordsFail>
-    ensures value { Reads result (record_words verb (string_bytes input.now) (texts words.now)) }
+    ensures value { ReadsWords result (record_words verb (string_bytes input.now) (texts words.now)) }
     ensures range { IfOk result (λ read. IfSome (offset_in read) IsOffset) }
     ensures trial { IfOk result TrialIsInRange }
 {
@@ -313,7 +306,7 @@ fn read_record(
 
 // The words after a command's own.
 fn read_input(alloc: Global, verb: Verb, words: &[String]) -> Result<Command, WordsFail>
-    ensures value { Reads result (input_words verb (texts words.now)) }
+    ensures value { ReadsWords result (input_words verb (texts words.now)) }
     ensures range { IfOk result (λ read. IfSome (offset_in read) IsOffset) }
     ensures trial { IfOk result TrialIsInRange }
 {
@@ -330,7 +323,7 @@ fn read_input(alloc: Global, verb: Verb, words: &[String]) -> Result<Command, Wo
 
 // The command, where no word stands from this index on.
 fn no_word(at: u32, command: Command, words: &[String]) -> Result<Command, WordsFail>
-    ensures value { Reads result (no_word at command (texts words.now)) }
+    ensures value { ReadsWords result (no_word at command (texts words.now)) }
     ensures kept { IfOk result (λ read. read ≡ command) }
 {
     match words {
@@ -341,7 +334,7 @@ fn no_word(at: u32, command: Command, words: &[String]) -> Result<Command, Words
 
 // The words of `sums`: INPUT.
 fn read_sums(alloc: Global, words: &[String]) -> Result<Command, WordsFail>
-    ensures value { Reads result (sums_words (texts words.now)) }
+    ensures value { ReadsWords result (sums_words (texts words.now)) }
     ensures range { IfOk result (λ read. IfSome (offset_in read) IsOffset) }
     ensures trial { IfOk result TrialIsInRange }
 {
@@ -359,7 +352,7 @@ fn read_sums(alloc: Global, words: &[String]) -> Result<Command, WordsFail>
 
 // The words of `trial`: SECTORS, SEED, SHIFT and HITS.
 fn read_trial(words: &[String]) -> Result<Command, WordsFail>
-    ensures value { Reads result (trial_words (texts words.now)) }
+    ensures value { ReadsWords result (trial_words (texts words.now)) }
     ensures range { IfOk result (λ read. IfSome (offset_in read) IsOffset) }
     ensures trial { IfOk result TrialIsInRange }
 {
@@ -416,7 +409,7 @@ fn verb_of(word: &str) -> Option<Verb>
 /// word that breaks a rule, or the number of words where one is missing. An offset that was read is from -5,879 to 5,879,
 /// and so is the shift of a trial; its sectors are from 30 to 9,000, and its hits at most 58,800.
 pub fn read_words(alloc: Global, words: &[String]) -> Result<Command, WordsFail>
-    ensures value { Reads result (command_reading (texts words.now)) }
+    ensures value { ReadsWords result (command_reading (texts words.now)) }
     ensures offsets { IfOk result (λ read. IfSome (offset_in read) IsOffset) }
     ensures trials { IfOk result TrialIsInRange }
 {

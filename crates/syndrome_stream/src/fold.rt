@@ -7,61 +7,84 @@ ghost use Rattle.gf16_field.specs.Xor.{◌⊕◌};
 ghost use Rattle.gf16_field.specs.Gf16.{◌⊗◌, alpha_power};
 
 use crate::table::STRIDE;
-use gf16_field::{Gf, add, double};
+use gf16_field::{Gf, add, times_lanes, times_power};
 use std::simd::prelude::*;
 
-// Each lane times α: a shift, and the modulus taken away where bit 16 comes up.
-fn double_lanes(lanes: u16x32) -> u16x32
-    ensures { result ≡ map (λ a. 2 ⊗ a) lanes }
-{
-    (lanes + lanes) ^ ((lanes >> 15) * u16x32::splat(0x100B))
-}
-
-// Each lane of `sums` times the m-th power of α, by m doublings, with the lane of `words` added.
-fn fold_lanes(sums: u16x32, words: u16x32, m: u32) -> u16x32
+// Each lane of `sums` times the m-th power of α, with the lane of `words` added.
+fn fold_lanes(sums: u16x32, words: u16x32, m: u16) -> u16x32
+    requires { m < 32 }
     ensures { result ≡ zip2 (λ a b. alpha_power m ⊗ a ⊕ b) sums words }
 {
-    let mut lanes = sums;
-    for _ in 0..m {
-        lanes = double_lanes(lanes);
-    }
-    lanes ^ words
+    times_lanes(sums, m) ^ words
 }
 
-/// A word times the m-th power of α, by m doublings.
-pub fn times_power(word: Gf, m: u32) -> Gf
-    ensures { result.0 ≡ alpha_power m ⊗ word.0 }
-{
-    let mut product = word;
-    for _ in 0..m {
-        product = double(product);
-    }
-    product
-}
-
-/// One more word for each of some columns: each word of `regs`, the columns' syndromes `m`, times the m-th power of α,
-/// with the word of `words` at its place added. It takes no memory.
-pub fn fold_stride(regs: &mut [u16], words: &[u16], m: u32)
-    requires { length regs.old ≡ length words.now }
-    ensures { EachIndex regs.new (λ k. slice_index regs.new k ≡ alpha_power m ⊗ slice_index regs.old k ⊕ slice_index words.now k) }
+// `fold_stride` for a power that the compiler knows, so that each shift is by a constant.
+fn fold_by<const M: u16>(regs: &mut [u16], words: &[u16])
+    requires power { M < 32 }
+    requires long { length regs.old ≡ length words.now }
+    ensures { EachIndex regs.new (λ k. slice_index regs.new k ≡ alpha_power M ⊗ slice_index regs.old k ⊕ slice_index words.now k) }
 {
     let count = regs.len();
     let mut i = 0;
     'vectors: while count - i >= 32 {
         let sums = u16x32::from_slice(&regs[i..]);
-        let folded = fold_lanes(sums, u16x32::from_slice(&words[i..]), m);
+        let folded = fold_lanes(sums, u16x32::from_slice(&words[i..]), M);
         folded.copy_to_slice(&mut regs[i..]);
         i += 32;
     }
     'rest: while i < count {
-        regs[i] = add(times_power(Gf(regs[i]), m), Gf(words[i])).0;
+        regs[i] = add(times_power(Gf(regs[i]), M), Gf(words[i])).0;
         i += 1;
+    }
+}
+
+/// One more word for each of some columns: each word of `regs`, the columns' syndromes `m`, times the m-th power of α,
+/// with the word of `words` at its place added. It takes no memory.
+pub fn fold_stride(regs: &mut [u16], words: &[u16], m: u32)
+    requires power { m < 32 }
+    requires long { length regs.old ≡ length words.now }
+    ensures { EachIndex regs.new (λ k. slice_index regs.new k ≡ alpha_power m ⊗ slice_index regs.old k ⊕ slice_index words.now k) }
+{
+    match m {
+        0 => fold_by::<0>(regs, words),
+        1 => fold_by::<1>(regs, words),
+        2 => fold_by::<2>(regs, words),
+        3 => fold_by::<3>(regs, words),
+        4 => fold_by::<4>(regs, words),
+        5 => fold_by::<5>(regs, words),
+        6 => fold_by::<6>(regs, words),
+        7 => fold_by::<7>(regs, words),
+        8 => fold_by::<8>(regs, words),
+        9 => fold_by::<9>(regs, words),
+        10 => fold_by::<10>(regs, words),
+        11 => fold_by::<11>(regs, words),
+        12 => fold_by::<12>(regs, words),
+        13 => fold_by::<13>(regs, words),
+        14 => fold_by::<14>(regs, words),
+        15 => fold_by::<15>(regs, words),
+        16 => fold_by::<16>(regs, words),
+        17 => fold_by::<17>(regs, words),
+        18 => fold_by::<18>(regs, words),
+        19 => fold_by::<19>(regs, words),
+        20 => fold_by::<20>(regs, words),
+        21 => fold_by::<21>(regs, words),
+        22 => fold_by::<22>(regs, words),
+        23 => fold_by::<23>(regs, words),
+        24 => fold_by::<24>(regs, words),
+        25 => fold_by::<25>(regs, words),
+        26 => fold_by::<26>(regs, words),
+        27 => fold_by::<27>(regs, words),
+        28 => fold_by::<28>(regs, words),
+        29 => fold_by::<29>(regs, words),
+        30 => fold_by::<30>(regs, words),
+        _ => fold_by::<31>(regs, words),
     }
 }
 
 // The run folded into the sums from `at` on.
 fn fold_at(sums: &mut [u16], at: usize, run: &[u16], m: u32)
-    requires { at + length run.now ≤ length sums.old }
+    requires power { m < 32 }
+    requires inside { at + length run.now ≤ length sums.old }
     ensures long { length sums.new ≡ length sums.old }
     ensures before { (k : ℕ) → k < at → slice_index sums.new k ≡ slice_index sums.old k }
     ensures folded { (k : ℕ) → k < length run.now → slice_index sums.new (at + k) ≡ alpha_power m ⊗ slice_index sums.old (at + k) ⊕ slice_index run.now k }

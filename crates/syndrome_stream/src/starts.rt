@@ -1,5 +1,6 @@
 // The parity of an image at each place at which a column of a rip may begin.
 ghost use Rattle.std.specs.Prelude.{◌≡◌, ◌+◌, ◌-◌, ◌*◌, ◌<◌, ◌≤◌, ℕ, List, length, slice_index, vec_len};
+ghost use Rattle.rip_basics.specs.Disc.{sector_words};
 ghost use Rattle.column_map.specs.Columns.{per_column, stride};
 ghost use Rattle.column_map.specs.Image.{AreWords};
 ghost use Rattle.gf16_field.specs.Xor.{◌⊕◌};
@@ -8,10 +9,9 @@ ghost use Rattle.syndrome_stream.specs.Parity.{parity_at};
 ghost use Rattle.syndrome_stream.specs.Rows.{IsRow};
 ghost use Rattle.syndrome_stream.specs.Starts.{StartsStandFor};
 
-use crate::fold::times_power;
 use crate::table::{STRIDE, are_words};
 use column_map::Shape;
-use gf16_field::{Gf, Tables, add};
+use gf16_field::{Gf, Tables, add, times_power};
 use std::marker::Model;
 
 /// Gives the parity of one image at any start: `P` syndromes of the words that stand there, a stride apart.
@@ -43,13 +43,14 @@ pub struct PlainStarts<const P: usize> {
 
 impl<const P: usize> Model for PlainStarts<P> {
     ghost use Rattle.std.specs.Prelude.{◌≡◌, ◌*◌, vec_len};
+    ghost use Rattle.rip_basics.specs.Disc.{sector_words};
     ghost use Rattle.syndrome_stream.specs.Starts.{Whole};
 
     ghost Value = { Whole };
 
     ghost view = { λ starts. record { sectors = starts.shape; words = starts.words.items } };
 
-    ghost invariant = { λ starts. vec_len starts.words ≡ 1176 * starts.shape };
+    ghost invariant = { λ starts. vec_len starts.words ≡ sector_words * starts.shape };
 }
 
 // One more word of a column: syndrome m times the m-th power of α, and the word.
@@ -60,7 +61,7 @@ fn fold_word<const P: usize>(row: [u16; P], word: u16) -> [u16; P]
 {
     let mut folded = row;
     for m in 0..P {
-        folded[m] = add(times_power(Gf(row[m]), m as u32), Gf(word)).0;
+        folded[m] = add(times_power(Gf(row[m]), m as u16), Gf(word)).0;
     }
     folded
 }
@@ -83,7 +84,7 @@ fn sum_at<const P: usize>(words: &[u16], a: usize, count: usize) -> [u16; P]
 impl<const P: usize> PlainStarts<P> {
     /// Keeps the words of an image of this shape. It takes no memory.
     pub fn of(shape: Shape, words: Vec<u16>) -> PlainStarts<P>
-        requires { vec_len words ≡ 1176 * shape }
+        requires { vec_len words ≡ sector_words * shape }
         ensures kept { result ≡ record { sectors = shape; words = words.items } }
         ensures stands { StartsStandFor P (⟦<PlainStarts<P> as Starts<P>>⟧.sectors result) (⟦<PlainStarts<P> as Starts<P>>⟧.row result) words.items }
     {

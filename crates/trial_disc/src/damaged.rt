@@ -1,10 +1,11 @@
 // Late and damaged rips.
 ghost use Rattle.std.specs.Prelude.{◌≡◌, ◌*◌, ◌^◌, ◌<◌, ◌≤◌, IfOk, length};
+ghost use Rattle.rip_basics.specs.Disc.{sector_words};
 ghost use Rattle.column_map.specs.Columns.{IsOffset, per_column, stride};
 ghost use Rattle.trial_disc.specs.Damaged.{damaged, hit_column, hit_number, late, word_at};
 
 use column_map::{STRIDE, Shape};
-use rip_outside::Oom;
+use rip_basics::Oom;
 use std::alloc::Global;
 
 // The word at a place, or 0 where there is none.
@@ -22,10 +23,10 @@ fn late_words(alloc: Global, disc: &[u16], shift: i32) -> Result<Vec<u16>, Oom>
     requires { length disc.now < 2 ^ 32 }
     ensures { IfOk result (λ words. words.items ≡ late disc.now shift) }
 {
-    let mut words = Vec::with_capacity(alloc, disc.len()).map_err(|_| Oom)?;
+    let mut words = Vec::with_capacity(alloc, disc.len())?;
     for i in 0..disc.len() {
         let word = word_at(disc, i as i64 - 2 * i64::from(shift));
-        words.push(word).map_err(|_| Oom)?;
+        words.push(word)?;
     }
     Ok(words)
 }
@@ -52,7 +53,7 @@ fn hit_number(count: u32, hit: u32) -> u32
 
 // Strikes a rip, so many samples late, with so many hits.
 fn damage(shape: Shape, words: &mut [u16], shift: i32, hits: u32)
-    requires whole { length words.old ≡ 1176 * shape }
+    requires whole { length words.old ≡ sector_words * shape }
     requires offset { IsOffset shift }
     requires few { hits ≤ 58800 }
     ensures { words.new ≡ damaged (per_column shape) shift hits words.old }
@@ -74,7 +75,7 @@ pub fn made_rip(
     shift: i32,
     hits: u32,
 ) -> Result<Vec<u16>, Oom>
-    requires whole { length disc.now ≡ 1176 * shape }
+    requires whole { length disc.now ≡ sector_words * shape }
     requires offset { IsOffset shift }
     requires few { hits ≤ 58800 }
     ensures { IfOk result (λ words. words.items ≡ damaged (per_column shape) shift hits (late disc.now shift)) }

@@ -2,7 +2,7 @@
 ghost use Rattle.std.specs.Prelude.{◌≡◌, ◌^◌, ◌<◌, IfOk};
 ghost use Rattle.trial_disc.specs.Generated.{generated, next};
 
-use rip_outside::Oom;
+use rip_basics::Oom;
 use std::alloc::Global;
 
 // What a number of the generator is taken times: the generator is that of `drand48`.
@@ -27,11 +27,11 @@ fn next(state: u64) -> u64
 pub fn disc_words(alloc: Global, seed: u32, count: u32) -> Result<Vec<u16>, Oom>
     ensures { IfOk result (λ words. words.items ≡ generated seed count) }
 {
-    let mut words = Vec::with_capacity(alloc, count as usize).map_err(|_| Oom)?;
+    let mut words = Vec::with_capacity(alloc, count as usize)?;
     let mut state = u64::from(seed);
     for _ in 0..count {
         state = next(state);
-        words.push((state >> 32) as u16).map_err(|_| Oom)?;
+        words.push((state >> 32) as u16)?;
     }
     Ok(words)
 }

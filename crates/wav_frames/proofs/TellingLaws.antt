@@ -1,12 +1,11 @@
 -- What the exits of calls tell.
-use Rattle.std.proofs.Common.{◌≡◌, ℕ, List, refl, ◌∙◌, arith, Option}
-use Rattle.rip_outside.specs.Files.{Files}
+use Rattle.std.proofs.Common.{◌≡◌, ℕ, List}
 use Rattle.std.specs.Prelude.{Result, Ok, Err}
 use Rattle.wav_frames.specs.declared.fail.WavFail.{WavFail}
 use Rattle.wav_frames.specs.declared.fail.WavFail.TheVariants.{Missing, Refused, ReadFault}
 use Rattle.wav_frames.specs.Chunks.{Check, Refusal, passed}
 use Rattle.rip_outside.specs.declared.fault.ShelfCall.{ShelfCall}
-use Rattle.wav_frames.specs.Opening.{FaultHasCause, NoFault, OnlyReads, Tells}
+use Rattle.wav_frames.specs.Opening.{ReadingHasCause, NoFault, Tells}
 use Rattle.wav_frames.proofs.CheckLaws.{passed-Err}
 
 -- A call that failed ends the one around it with the same answer, where its refusal is that of the whole.
@@ -25,18 +24,8 @@ pub Tells-passed : {T U : Type 0} (checks : List Check) (found : T) (reading : R
 Tells-passed checks found reading fail tells = Tells-Err (passed checks (Ok found)) (passed checks reading) fail tells (λ refusal e. passed-Err checks found reading refusal e)
 
 -- where no call has failed, no count had to rise
-pub cause_from_none : {T : Type 0} (before now : ShelfCall → ℕ) (result : Result T WavFail) → NoFault result → FaultHasCause before now result
+pub cause_from_none : {T : Type 0} (before now : ShelfCall → ℕ) (result : Result T WavFail) → NoFault result → ReadingHasCause before now result
 cause_from_none before now (Ok found) none = tt
 cause_from_none before now (Err Missing) none = tt
 cause_from_none before now (Err (Refused kind at)) none = tt
 cause_from_none before now (Err (ReadFault call)) none = absurd none
-
-pub OnlyReads-same : (held : Option Files) (faults : ShelfCall → ℕ) → OnlyReads held held faults faults
-OnlyReads-same held faults = record { same = refl; later = λ call. omega arith; others = λ call writes. refl }
-
-pub OnlyReads-twice : (held held' held'' : Option Files) (faults faults' faults'' : ShelfCall → ℕ) → OnlyReads held held' faults faults' → OnlyReads held' held'' faults' faults'' → OnlyReads held held'' faults faults''
-OnlyReads-twice held held' held'' faults faults' faults'' first second = record {
-  same = second.same ∙ first.same;
-  later = λ call. let early = first.later call in let late = second.later call in omega arith;
-  others = λ call writes. second.others call writes ∙ first.others call writes;
-}

@@ -3,7 +3,8 @@ ghost use Rattle.std.specs.Prelude.{◌≡◌, ◌+◌, ◌-◌, ◌^◌, ◌<�
 ghost use Rattle.std.specs.Option.{ForSome};
 ghost use Rattle.rip_outside.specs.Files.{bytes_at};
 ghost use Rattle.wav_frames.specs.Chunks.{chunk_len, chunk_reading, chunks_reading, data_reading};
-ghost use Rattle.wav_frames.specs.Opening.{FaultHasCause, IsInFile, NoFault, OnlyReads, TakesAtMost, Tells};
+ghost use Rattle.rip_outside.specs.Reading.{OnlyReads};
+ghost use Rattle.wav_frames.specs.Opening.{ReadingHasCause, AreWholeSamples, NoFault, TakesAtMost, Tells};
 ghost use Rattle.wav_frames.specs.Passing.{IsWithin, most_taken};
 
 use crate::fail::{WavAt, WavFail, WavKind};
@@ -31,7 +32,7 @@ fn find_words(met: bool, at: u64, len: u32, left: u64) -> Result<WavAt, WavFail>
     requires fits { at + left < 2 ^ 64 }
     ensures answer { Tells result (data_reading met at len left) }
     ensures fault { NoFault result }
-    ensures inside { IfOk result IsInFile }
+    ensures inside { IfOk result AreWholeSamples }
 {
     if !met {
         Err(WavFail::Refused {
@@ -82,8 +83,8 @@ fn read_chunk<S: Shelf>(
     requires inside { ForSome (S.held shelf.old) (λ files. at + left ≡ length (bytes_at name.now files)) }
     ensures answer { ForSome (S.held shelf.old) (λ files. Tells result (chunk_reading met at (drop at (bytes_at name.now files)))) }
     ensures within { IfOk result IsWithin }
-    ensures only { OnlyReads (S.held shelf.old) (S.held shelf.new) (S.faults shelf.old) (S.faults shelf.new) }
-    ensures cause { FaultHasCause (S.faults shelf.old) (S.faults shelf.new) result }
+    ensures only { OnlyReads S.Shelf shelf.old shelf.new }
+    ensures cause { ReadingHasCause (S.faults shelf.old) (S.faults shelf.new) result }
     ensures taken { TakesAtMost (most_taken left result) result (S.taken shelf.old) (S.taken shelf.new) }
 {
     let head = read_head(shelf, name, at)?;
@@ -103,9 +104,9 @@ pub(crate) fn find_data<S: Shelf>(shelf: &mut S, name: &str, end: u64) -> Result
     requires head { 12 ≤ end }
     requires inside { ForSome (S.held shelf.old) (λ files. end ≡ length (bytes_at name.now files)) }
     ensures answer { ForSome (S.held shelf.old) (λ files. Tells result (chunks_reading end end false (drop 12 (bytes_at name.now files)))) }
-    ensures within { IfOk result IsInFile }
-    ensures only { OnlyReads (S.held shelf.old) (S.held shelf.new) (S.faults shelf.old) (S.faults shelf.new) }
-    ensures cause { FaultHasCause (S.faults shelf.old) (S.faults shelf.new) result }
+    ensures within { IfOk result AreWholeSamples }
+    ensures only { OnlyReads S.Shelf shelf.old shelf.new }
+    ensures cause { ReadingHasCause (S.faults shelf.old) (S.faults shelf.new) result }
     ensures taken { TakesAtMost (end - 12) result (S.taken shelf.old) (S.taken shelf.new) }
 {
     let mut left = end - 12;

@@ -4,7 +4,8 @@ ghost use Rattle.std.specs.Option.{ForSome};
 ghost use Rattle.rip_outside.specs.Files.{bytes_at};
 ghost use Rattle.wav_frames.specs.Chunks.{passed, format_checks, sample_checks, subformat_checks, tag_checks};
 ghost use Rattle.wav_frames.specs.Pieces.{u16_at};
-ghost use Rattle.wav_frames.specs.Opening.{FaultHasCause, NoFault, OnlyReads, TakesAtMost, Tells};
+ghost use Rattle.rip_outside.specs.Reading.{OnlyReads};
+ghost use Rattle.wav_frames.specs.Opening.{ReadingHasCause, NoFault, TakesAtMost, Tells};
 
 use crate::fail::{WavFail, WavKind};
 use crate::pieces::{Format, read_format, read_piece};
@@ -26,8 +27,8 @@ fn check_subformat<S: Shelf>(shelf: &mut S, name: &str, at: u64, len: u32) -> Re
     requires fits { at + 8 + len < 2 ^ 64 }
     requires inside { ForSome (S.held shelf.old) (λ files. at + 8 + len ≤ length (bytes_at name.now files)) }
     ensures answer { ForSome (S.held shelf.old) (λ files. Tells result (passed (subformat_checks at len (drop at (bytes_at name.now files))) (Ok tt))) }
-    ensures only { OnlyReads (S.held shelf.old) (S.held shelf.new) (S.faults shelf.old) (S.faults shelf.new) }
-    ensures cause { FaultHasCause (S.faults shelf.old) (S.faults shelf.new) result }
+    ensures only { OnlyReads S.Shelf shelf.old shelf.new }
+    ensures cause { ReadingHasCause (S.faults shelf.old) (S.faults shelf.new) result }
     ensures taken { TakesAtMost (len - 16) result (S.taken shelf.old) (S.taken shelf.new) }
 {
     if len < 40 {
@@ -88,8 +89,8 @@ fn check_tag<S: Shelf>(
     requires inside { ForSome (S.held shelf.old) (λ files. at + 8 + len ≤ length (bytes_at name.now files)) }
     requires tag { ForSome (S.held shelf.old) (λ files. tag ≡ u16_at 8 (drop at (bytes_at name.now files))) }
     ensures answer { ForSome (S.held shelf.old) (λ files. Tells result (passed (tag_checks at len (drop at (bytes_at name.now files))) (Ok tt))) }
-    ensures only { OnlyReads (S.held shelf.old) (S.held shelf.new) (S.faults shelf.old) (S.faults shelf.new) }
-    ensures cause { FaultHasCause (S.faults shelf.old) (S.faults shelf.new) result }
+    ensures only { OnlyReads S.Shelf shelf.old shelf.new }
+    ensures cause { ReadingHasCause (S.faults shelf.old) (S.faults shelf.new) result }
     ensures taken { TakesAtMost (len - 16) result (S.taken shelf.old) (S.taken shelf.new) }
 {
     if tag == EXTENSIBLE {
@@ -118,8 +119,8 @@ pub(crate) fn check_format<S: Shelf>(
     requires fits { at + left < 2 ^ 64 }
     requires inside { ForSome (S.held shelf.old) (λ files. at + left ≡ length (bytes_at name.now files)) }
     ensures answer { ForSome (S.held shelf.old) (λ files. Tells result (passed (format_checks at len left (drop at (bytes_at name.now files))) (Ok tt))) }
-    ensures only { OnlyReads (S.held shelf.old) (S.held shelf.new) (S.faults shelf.old) (S.faults shelf.new) }
-    ensures cause { FaultHasCause (S.faults shelf.old) (S.faults shelf.new) result }
+    ensures only { OnlyReads S.Shelf shelf.old shelf.new }
+    ensures cause { ReadingHasCause (S.faults shelf.old) (S.faults shelf.new) result }
     ensures taken { TakesAtMost (min len (left - 8)) result (S.taken shelf.old) (S.taken shelf.new) }
 {
     if len < 16 || left - 8 < u64::from(len) {

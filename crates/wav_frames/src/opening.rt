@@ -4,8 +4,8 @@ ghost use Rattle.std.specs.Str.{bytes_eq};
 ghost use Rattle.std.specs.Option.{ForSome};
 ghost use Rattle.std.specs.FinMap.{get};
 ghost use Rattle.rip_outside.specs.Files.{bytes_at};
-ghost use Rattle.rip_outside.specs.Causes.{KeepsWriteCounts, NoneFell};
-ghost use Rattle.wav_frames.specs.Opening.{FaultHasCause, IsInFile, OnlyReads, Opens, TakesAtMost, TakesWithin, Tells};
+ghost use Rattle.rip_outside.specs.Reading.{OnlyReads};
+ghost use Rattle.wav_frames.specs.Opening.{ReadingHasCause, AreWholeSamples, OpensWav, TakesAtMost, TakesWithinFile, Tells};
 
 use crate::chunks::find_data;
 use crate::fail::{WavAt, WavFail, WavKind};
@@ -23,8 +23,8 @@ fn has_mark<S: Shelf>(
     requires inside { ForSome (S.held shelf.old) (λ files. size ≡ length (bytes_at name.now files)) }
     requires fits { at + 4 < 2 ^ 64 }
     ensures answer { ForSome (S.held shelf.old) (λ files. Tells result (Ok (bytes_eq (take 4 (drop at (bytes_at name.now files))) mark))) }
-    ensures only { OnlyReads (S.held shelf.old) (S.held shelf.new) (S.faults shelf.old) (S.faults shelf.new) }
-    ensures cause { FaultHasCause (S.faults shelf.old) (S.faults shelf.new) result }
+    ensures only { OnlyReads S.Shelf shelf.old shelf.new }
+    ensures cause { ReadingHasCause (S.faults shelf.old) (S.faults shelf.new) result }
     ensures long { IfOk result (λ has. IsTrue has → at + 4 ≤ size) }
     ensures taken { TakesAtMost (min 4 (size - at)) result (S.taken shelf.old) (S.taken shelf.new) }
 {
@@ -39,13 +39,11 @@ fn has_mark<S: Shelf>(
 /// Where the words of the file of this name stand.
 #[tactic(auto, unfolding(crate::specs::Chunks::wav_reading))]
 pub fn open_wav<S: Shelf>(shelf: &mut S, name: &str) -> Result<WavAt, WavFail>
-    ensures answer { IfSome (S.held shelf.old) (λ files. Opens result (get files name.now)) }
-    ensures inside { IfOk result IsInFile }
-    ensures same { S.held shelf.new ≡ S.held shelf.old }
-    ensures cause { FaultHasCause (S.faults shelf.old) (S.faults shelf.new) result }
-    ensures others { KeepsWriteCounts (S.faults shelf.old) (S.faults shelf.new) }
-    ensures later { NoneFell (S.faults shelf.old) (S.faults shelf.new) }
-    ensures taken { TakesWithin (S.held shelf.old) name.now result (S.taken shelf.old) (S.taken shelf.new) }
+    ensures answer { IfSome (S.held shelf.old) (λ files. OpensWav result (get files name.now)) }
+    ensures inside { IfOk result AreWholeSamples }
+    ensures only { OnlyReads S.Shelf shelf.old shelf.new }
+    ensures cause { ReadingHasCause (S.faults shelf.old) (S.faults shelf.new) result }
+    ensures taken { TakesWithinFile (S.held shelf.old) name.now result (S.taken shelf.old) (S.taken shelf.new) }
 {
     let size = match shelf.size(name) {
         Ok(Some(size)) => size,

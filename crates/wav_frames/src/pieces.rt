@@ -2,7 +2,8 @@
 ghost use Rattle.std.specs.Prelude.{◌≡◌, ◌+◌, ◌^◌, ◌<◌, ◌≤◌, length, drop, take, Ok, OnOk};
 ghost use Rattle.std.specs.Option.{ForSome};
 ghost use Rattle.rip_outside.specs.Files.{bytes_at};
-ghost use Rattle.wav_frames.specs.Opening.{FaultHasCause, OnlyReads, TakesAtMost, Tells};
+ghost use Rattle.rip_outside.specs.Reading.{OnlyReads};
+ghost use Rattle.wav_frames.specs.Opening.{ReadingHasCause, TakesAtMost, Tells};
 ghost use Rattle.wav_frames.specs.Pieces.{head_of, format_of};
 
 use crate::fail::WavFail;
@@ -19,8 +20,8 @@ pub(crate) fn read_piece<S: Shelf>(
     requires inside { ForSome (S.held shelf.old) (λ files. at + length buf.old ≤ length (bytes_at name.now files)) }
     ensures answer { ForSome (S.held shelf.old) (λ files. Tells result (Ok tt)) }
     ensures bytes { ForSome (S.held shelf.old) (λ files. OnOk result (buf.new ≡ take (length buf.old) (drop at (bytes_at name.now files)))) }
-    ensures only { OnlyReads (S.held shelf.old) (S.held shelf.new) (S.faults shelf.old) (S.faults shelf.new) }
-    ensures cause { FaultHasCause (S.faults shelf.old) (S.faults shelf.new) result }
+    ensures only { OnlyReads S.Shelf shelf.old shelf.new }
+    ensures cause { ReadingHasCause (S.faults shelf.old) (S.faults shelf.new) result }
     ensures taken { TakesAtMost (length buf.old) result (S.taken shelf.old) (S.taken shelf.new) }
 {
     match shelf.read_at(name, at, buf) {
@@ -42,8 +43,8 @@ pub(crate) struct Head {
 pub(crate) fn read_head<S: Shelf>(shelf: &mut S, name: &str, at: u64) -> Result<Head, WavFail>
     requires inside { ForSome (S.held shelf.old) (λ files. at + 8 ≤ length (bytes_at name.now files)) }
     ensures answer { ForSome (S.held shelf.old) (λ files. Tells result (Ok (head_of (drop at (bytes_at name.now files))))) }
-    ensures only { OnlyReads (S.held shelf.old) (S.held shelf.new) (S.faults shelf.old) (S.faults shelf.new) }
-    ensures cause { FaultHasCause (S.faults shelf.old) (S.faults shelf.new) result }
+    ensures only { OnlyReads S.Shelf shelf.old shelf.new }
+    ensures cause { ReadingHasCause (S.faults shelf.old) (S.faults shelf.new) result }
     ensures taken { TakesAtMost 8 result (S.taken shelf.old) (S.taken shelf.new) }
 {
     let mut head = [0; 8];
@@ -70,8 +71,8 @@ pub(crate) fn read_format<S: Shelf>(shelf: &mut S, name: &str, at: u64) -> Resul
     requires fits { at + 24 < 2 ^ 64 }
     requires inside { ForSome (S.held shelf.old) (λ files. at + 24 ≤ length (bytes_at name.now files)) }
     ensures answer { ForSome (S.held shelf.old) (λ files. Tells result (Ok (format_of (drop at (bytes_at name.now files))))) }
-    ensures only { OnlyReads (S.held shelf.old) (S.held shelf.new) (S.faults shelf.old) (S.faults shelf.new) }
-    ensures cause { FaultHasCause (S.faults shelf.old) (S.faults shelf.new) result }
+    ensures only { OnlyReads S.Shelf shelf.old shelf.new }
+    ensures cause { ReadingHasCause (S.faults shelf.old) (S.faults shelf.new) result }
     ensures taken { TakesAtMost 16 result (S.taken shelf.old) (S.taken shelf.new) }
 {
     let mut body = [0; 16];

@@ -1,6 +1,6 @@
 use Rattle.std.proofs.Common.{◌≡◌, ◌+◌, arith, ◌∙◌, sym, refl, Ok, Err, length}
 use Rattle.std.proofs.lemmas.Bool.{eqb-true}
-use Rattle.cue_sheet.specs.Reading.{line_reading, ended, sheet_of}
+use Rattle.cue_sheet.specs.Reading.{line_reading, sheet_end, sheet_of}
 use Rattle.cue_sheet.specs.Progress.{state_of}
 use Rattle.cue_sheet.proofs.ReadingLaws.{next_line, refused_line, at_end, sheet_read}
 use Rattle.cue_sheet.proofs.SoundLaws.{line_sound}
@@ -27,12 +27,12 @@ pub returns-in-Ok-finish : goal.returns-in-Ok-finish
 returns-in-Ok-finish c =
     let l = c.loop-rest in
     let none : length l.rest.now ≡ 0 = eqb-true _ 0 (sym c.loop-rest-test.ensures) in
-    let whole : ended (state_of l.progress) ≡ Ok (sheet_of c.in-Ok-finish.cue) = c.in-Ok-finish.ensures in
+    let whole : sheet_end (state_of l.progress) ≡ Ok (sheet_of c.in-Ok-finish.cue) = c.in-Ok-finish.ensures in
     at_end c.args.bytes.now l.rest.now (l.line + 1) (state_of l.progress) none l.invariant.reading ∙ rw whole refl
 
 pub returns-in-Err : goal.returns-in-Err
 returns-in-Err c =
     let l = c.loop-rest in
     let none : length l.rest.now ≡ 0 = eqb-true _ 0 (sym c.loop-rest-test.ensures) in
-    let whole : ended (state_of l.progress) ≡ Err c.in-Err.kind = c.in-Err.ensures in
+    let whole : sheet_end (state_of l.progress) ≡ Err c.in-Err.kind = c.in-Err.ensures in
     at_end c.args.bytes.now l.rest.now (l.line + 1) (state_of l.progress) none l.invariant.reading ∙ rw whole refl

@@ -6,12 +6,12 @@ use Rattle.std.proofs.lemmas.List.Elements.{All-push}
 use Rattle.std.proofs.lemmas.List.Sums.{sum_by_more, sum_by_more_le}
 use Rattle.rip_outside.specs.Files.{Files, bytes_at}
 use Rattle.rip_outside.proofs.FilesLaws.{if_told, when_told}
-use Rattle.wav_frames.proofs.TellingLaws.{OnlyReads-same, OnlyReads-twice}
+use Rattle.rip_outside.proofs.ReadingLaws.{reads_none, reads_twice}
 use Rattle.image_mender.specs.Joined.{EndsInRange, IsInFile, part_words}
 use Rattle.image_mender.specs.declared.image.Part.{Part}
 use Rattle.rip_inputs.specs.Opening.{lengths_of, wav_opened, wavs_opened}
-use Rattle.rip_inputs.specs.Telling.{Does, IsShort, wavs_of}
-use Rattle.rip_inputs.proofs.StepLaws.{Does-Err, TakesWithin-Err, TookAtMost-none, TookAtMost-more, TookAtMost-told}
+use Rattle.rip_inputs.specs.Telling.{TellsOpening, IsShort, wavs_of}
+use Rattle.rip_inputs.proofs.StepLaws.{TellsOpening-Err, OpeningTakes-Err, TookAtMost-none, TookAtMost-more, TookAtMost-told}
 use Rattle.rip_inputs.proofs.WavLaws.{none_opened, wavs_opened-more, wavs_opened-refused}
 use Rattle.rip_inputs.proofs.wavs.open_wavs.Goals as goal
 
@@ -31,7 +31,7 @@ loop-name-init g c =
       named = search rules;
       short = search rules;
       ends = search rules;
-      only = OnlyReads-same _ _;
+      only = reads_none _ _;
       took = TookAtMost-none _ _ _;
     }
 
@@ -41,9 +41,9 @@ returns-in_err-part-clause-answer g c =
     let name = c.name-item.result in
     let p = err_from_is_err_and c.from_residual.result c.from_residual.ensures.1 in
     rw (p.1, p.2) (if_told (g.S.Shelf.held c.args.shelf.now) _ (λ files told.
-    let refused = when_told (g.S.Shelf.held l.shelf) (λ files. Does {T = Part} (λ part. part_words part files) (Err c.in_err-part.field-0.0) (wav_opened c.as_str.result.now (get files c.as_str.result.now)))
+    let refused = when_told (g.S.Shelf.held l.shelf) (λ files. TellsOpening {T = Part} (λ part. part_words part files) (Err c.in_err-part.field-0.0) (wav_opened c.as_str.result.now (get files c.as_str.result.now)))
     c.in_err-part.ensures.answer files (l.invariant.only.same ∙ told) in
-    Does-Err {U = Vec Part Global} (λ (part : Part). part_words part files) (λ parts. wavs_of parts.items files) (wav_opened name (get files name)) (wavs_opened c.args.names.now files) c.in_err-part.field-0.0
+    TellsOpening-Err {U = Vec Part Global} (λ (part : Part). part_words part files) (λ parts. wavs_of parts.items files) (wav_opened name (get files name)) (wavs_opened c.args.names.now files) c.in_err-part.field-0.0
     (rw c.as_str.ensures at refused)
     (λ refusal e. wavs_opened-refused c.args.names.now l.name-index name files (wavs_of l.parts.items files) refusal (omega arith) c.name-item.is (l.invariant.read files told) e)))
 
@@ -52,7 +52,7 @@ returns-in_err-part-clause-taken g c =
     let l = c.loop-name in
     let name = c.name-item.result in
     let p = err_from_is_err_and c.from_residual.result c.from_residual.ensures.1 in
-    rw (p.1, p.2) (TakesWithin-Err Part (Vec Part Global) (g.S.Shelf.held c.args.shelf.now) (g.S.Shelf.held l.shelf) (lengths_of (take l.name-index c.args.names.now)) (λ files. length (bytes_at c.as_str.result.now files)) (lengths_of c.args.names.now) c.in_err-part.field-0.0 _ _ _
+    rw (p.1, p.2) (OpeningTakes-Err Part (Vec Part Global) (g.S.Shelf.held c.args.shelf.now) (g.S.Shelf.held l.shelf) (lengths_of (take l.name-index c.args.names.now)) (λ files. length (bytes_at c.as_str.result.now files)) (lengths_of c.args.names.now) c.in_err-part.field-0.0 _ _ _
     l.invariant.took l.invariant.only.same (λ files told. rw c.as_str.ensures (within_all c.args.names.now l.name-index name files (omega arith) c.name-item.is)) c.in_err-part.ensures.taken)
 
 pub returns-then-is_err-clause-taken : goal.returns-then-is_err-clause-taken
@@ -78,7 +78,13 @@ loop-name-preserved g c =
       named = rw (pushed, map-append, take_more c.args.names.now l.name-index name (omega arith)) (ap₂ (λ x y. x ++ y ∷ []) l.invariant.named (same_name ∙ c.name-item.is));
       short = rw pushed (All-push IsShort l.parts.items part l.invariant.short c.in_ok-part.ensures.short);
       ends = rw pushed (All-push EndsInRange l.parts.items part l.invariant.ends c.in_ok-part.ensures.ends);
-      only = OnlyReads-twice _ _ _ _ _ _ l.invariant.only c.in_ok-part.ensures.only;
+      only = reads_twice _ _ _ _ l.invariant.only c.in_ok-part.ensures.only;
       took = TookAtMost-more (g.S.Shelf.held c.args.shelf.now) (g.S.Shelf.held l.shelf) (lengths_of (take l.name-index c.args.names.now)) (λ files. length (bytes_at name files)) (lengths_of (take (l.name-index + 1) c.args.names.now)) _ _ _
           l.invariant.took l.invariant.only.same (λ files told. one_more c.args.names.now l.name-index name files (omega arith) c.name-item.is) (rw c.as_str.ensures at c.in_ok-part.ensures.taken);
     }
+
+pub returns-in_err-part-clause-only : goal.returns-in_err-part-clause-only
+returns-in_err-part-clause-only g c = reads_twice _ _ _ _ c.loop-name.invariant.only c.open_part.ensures.only
+
+pub returns-then-is_err-clause-only : goal.returns-then-is_err-clause-only
+returns-then-is_err-clause-only g c = reads_twice _ _ _ _ c.loop-name.invariant.only c.open_part.ensures.only

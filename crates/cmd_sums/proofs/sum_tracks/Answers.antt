@@ -1,0 +1,66 @@
+use Rattle.std.proofs.Common.{◌≡◌, ◌∙◌, ◌+◌, ◌-◌, ◌*◌, ◌<◌, ◌≤◌, ◌∷◌, [], ◌++◌, ℕ, List, map, ap, ap₂, length, sym, arith, rules, zero-add}
+use Rattle.std.specs.List.{range_with_len}
+use Rattle.std.proofs.lemmas.Result.{err_from_is_err_and}
+use Rattle.std.proofs.lemmas.List.FromFn.{map-range_with_len_more}
+use Rattle.rip_outside.specs.Files.{Files}
+use Rattle.rip_outside.proofs.FilesLaws.{if_told_both}
+use Rattle.accurip_sums.specs.declared.pair.Sums.{Sums}
+use Rattle.disc_toc.specs.Toc.{toc_of}
+use Rattle.image_mender.specs.Joined.{joined_words, word_count}
+use Rattle.cmd_sums.specs.SumsOutcome.{begin_of, sums_of}
+use Rattle.cmd_sums.proofs.SummingLaws.{begin_rises, begin_within}
+use Rattle.engine_steps.proofs.TakingLaws.{stopped_takes, takes_after}
+use Rattle.rip_outside.proofs.ReadingLaws.{reads_twice}
+use Rattle.cmd_sums.proofs.sum_tracks.Goals as goal
+
+pub returns-in_err-sums-clause-taken : goal.returns-in_err-sums-clause-taken
+returns-in_err-sums-clause-taken g c =
+    let layout = c.args.layout.now in
+    let toc = toc_of layout in
+    let i = c.loop-i.i in
+    let all = 2 * word_count c.args.image.now in
+    let below : i < length layout.starts = omega (arith, c.loop-i-test.true, c.loop-i.auto.i-end, ap length c.as_slice-i-end.ensures) in
+    let fits : 2352 * begin_of toc i + 2352 * (begin_of toc (i + 1) - begin_of toc i) ≤ all =
+    omega (arith, c.requires.count, begin_rises toc layout.valid i below, begin_within toc layout.valid (i + 1) (omega arith)) in
+    let p = err_from_is_err_and c.from_residual-in_err-sums.result c.from_residual-in_err-sums.ensures.1 in
+    stopped_takes all _ _ c.sum_track.result p.0 c.from_residual-in_err-sums.result (search rules) p.1
+    (takes_after (2352 * begin_of toc i) (2352 * (begin_of toc (i + 1) - begin_of toc i)) all _ _ _ c.sum_track.result c.loop-i.invariant.taken fits c.sum_track.ensures.taken)
+
+pub returns-in_default-clause-taken : goal.returns-in_default-clause-taken
+returns-in_default-clause-taken g c =
+    let layout = c.args.layout.now in
+    let toc = toc_of layout in
+    let i = c.loop-i.i in
+    let below : i < length layout.starts = omega (arith, c.loop-i-test.true, c.loop-i.auto.i-end, ap length c.as_slice-i-end.ensures) in
+    omega (arith, c.requires.count, c.in_ok-sums.ensures.taken, c.loop-i.invariant.taken, begin_rises toc layout.valid i below, begin_within toc layout.valid (i + 1) (omega arith))
+
+pub loop-i-preserved : goal.loop-i-preserved
+loop-i-preserved g c =
+    let layout = c.args.layout.now in
+    let toc = toc_of layout in
+    let i = c.loop-i.i in
+    let f : Files → ℕ → Sums = λ files. sums_of toc (joined_words c.args.image.now files) in
+    let below : i < length layout.starts = omega (arith, c.loop-i-test.true, c.loop-i.auto.i-end, ap length c.as_slice-i-end.ensures) in
+    let items : c.push.new.self.items ≡ c.loop-i.list.items ++ c.in_ok-sums.sums ∷ [] = search rules in
+    record {
+      scratch = search rules;
+      words = search rules;
+      many = search rules;
+      list = if_told_both (g.S.Shelf.held c.args.shelf.now) (λ files. c.loop-i.list.items ≡ map (f files) (range_with_len 0 i)) (λ files. c.in_ok-sums.sums ≡ f files i) _
+          (λ files so_far here. items ∙ ap₂ (λ (a : List Sums) b. a ++ b ∷ []) so_far here ∙ sym (map-range_with_len_more (f files) 0 i i (zero-add i))) c.loop-i.invariant.list
+          (rw c.loop-i.invariant.only.same at c.in_ok-sums.ensures.sums);
+      only = reads_twice _ _ _ _ c.loop-i.invariant.only c.sum_track.ensures.only;
+      taken = omega (arith, c.in_ok-sums.ensures.taken, c.loop-i.invariant.taken, begin_rises toc layout.valid i below);
+    }
+
+pub returns-clause-taken : goal.returns-clause-taken
+returns-clause-taken g c =
+    let layout = c.args.layout.now in
+    let most : c.loop-i.i ≤ length layout.starts = omega (arith, c.loop-i.auto.i-end, ap length c.as_slice-i-end.ensures) in
+    omega (arith, c.requires.count, c.loop-i.invariant.taken, begin_within (toc_of layout) layout.valid c.loop-i.i most)
+
+pub returns-in_err-sums-clause-only : goal.returns-in_err-sums-clause-only
+returns-in_err-sums-clause-only g c = reads_twice _ _ _ _ c.loop-i.invariant.only c.sum_track.ensures.only
+
+pub returns-in_default-clause-only : goal.returns-in_default-clause-only
+returns-in_default-clause-only g c = reads_twice _ _ _ _ c.loop-i.invariant.only c.sum_track.ensures.only

@@ -1,0 +1,3 @@
+pub mod QuietLaws
+pub mod TrialLaws
+pub mod TrialTextLaws

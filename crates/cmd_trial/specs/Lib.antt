@@ -1,0 +1,2 @@
+pub mod TrialFiles
+pub mod TrialOutcome

@@ -1,0 +1,6 @@
+//! The offsets at which a rip agrees with a record, and the words to mend there.
+#![tactic(auto)]
+
+mod picking;
+
+pub use picking::{Picked, list_of, mend_of, pick_of};

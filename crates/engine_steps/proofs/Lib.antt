@@ -1,0 +1,9 @@
+pub mod ComparedLaws
+pub mod CrashingLaws
+pub mod Leaving
+pub mod NameLaws
+pub mod OpeningLaws
+pub mod OutcomeLaws
+pub mod PieceLaws
+pub mod StepLaws
+pub mod TakingLaws

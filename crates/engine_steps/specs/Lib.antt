@@ -1,0 +1,4 @@
+pub mod Comparing
+pub mod Crashing
+pub mod Outcome
+pub mod Steps

@@ -1,0 +1,13 @@
+//! What the commands share: the steps before a command's own work, what a command comes to, and what it leaves.
+#![tactic(auto)]
+
+mod buffers;
+mod comparing;
+mod steps;
+
+pub use buffers::{PIECE, zero_bytes, zero_words};
+pub use comparing::{Compared, compare};
+pub use steps::{
+    Answer, Stop, check_free, check_layout, find_record, is_among, is_read, open_input,
+    open_measured, part_name, write_out,
+};

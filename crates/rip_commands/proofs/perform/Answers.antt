@@ -1,0 +1,92 @@
+use Rattle.std.proofs.Common.{◌≡◌, ◌*◌, ℤ, arith, refl, rules, subst}
+use Rattle.rip_outside.proofs.FilesLaws.{if_told}
+use Rattle.rip_words.specs.Command.{IsTrial}
+use Rattle.rip_words.specs.declared.Command.TheVariants.{Offsets, Register, Repair, Sums, Trial, Verify}
+use Rattle.rip_report.specs.declared.status.Status.TheVariants.{Done}
+use Rattle.engine_steps.specs.Outcome.{answered}
+use Rattle.cmd_trial.specs.TrialOutcome.{IsTrialText}
+use Rattle.engine_search.proofs.PickLaws.{offset_kept}
+use Rattle.engine_steps.proofs.CrashingLaws.{safe_none, safe_rests}
+use Rattle.rip_inputs.specs.Opening.{lengths_of, names_read}
+use Rattle.engine_steps.specs.Comparing.{compared_names}
+use Rattle.rip_commands.proofs.RanLaws.{takes_most, takes_nothing}
+use Rattle.rip_commands.proofs.perform.Goals as goal
+
+pub returns-in-Offsets-clause-leaves : goal.returns-in-Offsets-clause-leaves
+returns-in-Offsets-clause-leaves g c =
+    let read : c.args.command ≡ Offsets c.as_str-in-Offsets.result.now c.as_str-in-Offsets-2.result.now = search rules in
+    rw read c.offsets.ensures.leaves
+
+pub returns-in_ok-trial-in-Trial-clause-leaves : goal.returns-in_ok-trial-in-Trial-clause-leaves
+returns-in_ok-trial-in-Trial-clause-leaves g c =
+    let asked = c.in-Trial in
+    let read : c.args.command ≡ Trial asked.sectors asked.seed asked.shift asked.hits = search rules in
+    let range : IsTrial asked.sectors asked.shift asked.hits = rw read at c.requires.trial in
+    let Of : ℤ → Type 0 = λ d. IsTrialText asked.sectors asked.seed d asked.hits c.in_ok-trial-in-Trial.field-0 in
+    let told : Of asked.shift = subst Of (offset_kept asked.shift range.shift_offset) c.in_ok-trial-in-Trial.ensures in
+    rw read (if_told (g.S.Shelf.held c.args.shelf.now) _ (λ files same. (answered Done c.in_ok-trial-in-Trial.field-0, (range, (c.in_ok-trial-in-Trial.field-0, told, refl)), refl, refl, same)))
+
+pub returns-in_ok-trial-in-Trial-clause-no_file : goal.returns-in_ok-trial-in-Trial-clause-no_file
+returns-in_ok-trial-in-Trial-clause-no_file g c =
+    let asked = c.in-Trial in
+    let read : c.args.command ≡ Trial asked.sectors asked.seed asked.shift asked.hits = search rules in
+    let range : IsTrial asked.sectors asked.shift asked.hits = rw read at c.requires.trial in
+    let Of : ℤ → Type 0 = λ d. IsTrialText asked.sectors asked.seed d asked.hits c.in_ok-trial-in-Trial.field-0 in
+    let told : Of asked.shift = subst Of (offset_kept asked.shift range.shift_offset) c.in_ok-trial-in-Trial.ensures in
+    rw read (λ none. (answered Done c.in_ok-trial-in-Trial.field-0, (range, (c.in_ok-trial-in-Trial.field-0, told, refl)), refl, refl))
+
+pub returns-in-Register-clause-crashes : goal.returns-in-Register-clause-crashes
+returns-in-Register-clause-crashes g c =
+    let read : c.args.command ≡ Register c.as_str.result.now c.as_str-in-Register.result.now c.in-Register.npar = search rules in
+    rw read c.register.ensures.crashes
+
+pub returns-in-Repair-clause-crashes : goal.returns-in-Repair-clause-crashes
+returns-in-Repair-clause-crashes g c =
+    let read : c.args.command ≡ Repair c.as_str-in-Repair.result.now c.as_str-in-Repair-2.result.now c.as_str-in-Repair-3.result.now c.in-Repair.offset = search rules in
+    rw read c.repair.ensures.crashes
+
+pub returns-in-Verify-clause-crashes : goal.returns-in-Verify-clause-crashes
+returns-in-Verify-clause-crashes g c = safe_rests _ _ _ _ c.verify.ensures.only.crashes
+
+pub returns-in-Offsets-clause-crashes : goal.returns-in-Offsets-clause-crashes
+returns-in-Offsets-clause-crashes g c = safe_rests _ _ _ _ c.offsets.ensures.only.crashes
+
+pub returns-in-Sums-clause-crashes : goal.returns-in-Sums-clause-crashes
+returns-in-Sums-clause-crashes g c = safe_rests _ _ _ _ c.sums.ensures.only.crashes
+
+pub returns-in_ok-trial-in-Trial-clause-crashes : goal.returns-in_ok-trial-in-Trial-clause-crashes
+returns-in_ok-trial-in-Trial-clause-crashes g c = safe_none _ _ _
+
+pub returns-in_err-trial-in-Trial-clause-crashes : goal.returns-in_err-trial-in-Trial-clause-crashes
+returns-in_err-trial-in-Trial-clause-crashes g c = safe_none _ _ _
+
+pub returns-in-Register-clause-taken : goal.returns-in-Register-clause-taken
+returns-in-Register-clause-taken g c =
+    let read : c.args.command ≡ Register c.as_str.result.now c.as_str-in-Register.result.now c.in-Register.npar = search rules in
+    rw read (takes_most (g.S.Shelf.held c.args.shelf.now) (λ files. 3 * lengths_of (names_read c.as_str.result.now files) files) c.register.result _ _ c.register.ensures.taken)
+
+pub returns-in-Verify-clause-taken : goal.returns-in-Verify-clause-taken
+returns-in-Verify-clause-taken g c =
+    let read : c.args.command ≡ Verify c.as_str-in-Verify.result.now c.as_str-in-Verify-2.result.now c.in-Verify.offset = search rules in
+    rw read (takes_most (g.S.Shelf.held c.args.shelf.now) (λ files. 3 * lengths_of (compared_names c.as_str-in-Verify.result.now c.as_str-in-Verify-2.result.now files) files) c.verify.result _ _ c.verify.ensures.taken)
+
+pub returns-in-Offsets-clause-taken : goal.returns-in-Offsets-clause-taken
+returns-in-Offsets-clause-taken g c =
+    let read : c.args.command ≡ Offsets c.as_str-in-Offsets.result.now c.as_str-in-Offsets-2.result.now = search rules in
+    rw read (takes_most (g.S.Shelf.held c.args.shelf.now) (λ files. 3 * lengths_of (compared_names c.as_str-in-Offsets.result.now c.as_str-in-Offsets-2.result.now files) files) c.offsets.result _ _ c.offsets.ensures.taken)
+
+pub returns-in-Repair-clause-taken : goal.returns-in-Repair-clause-taken
+returns-in-Repair-clause-taken g c =
+    let read : c.args.command ≡ Repair c.as_str-in-Repair.result.now c.as_str-in-Repair-2.result.now c.as_str-in-Repair-3.result.now c.in-Repair.offset = search rules in
+    rw read (takes_most (g.S.Shelf.held c.args.shelf.now) (λ files. 3 * lengths_of (compared_names c.as_str-in-Repair.result.now c.as_str-in-Repair-2.result.now files) files) c.repair.result _ _ c.repair.ensures.taken)
+
+pub returns-in-Sums-clause-taken : goal.returns-in-Sums-clause-taken
+returns-in-Sums-clause-taken g c =
+    let read : c.args.command ≡ Sums c.as_str-in-Sums.result.now = search rules in
+    rw read (takes_most (g.S.Shelf.held c.args.shelf.now) (λ files. 3 * lengths_of (names_read c.as_str-in-Sums.result.now files) files) c.sums.result _ _ c.sums.ensures.taken)
+
+pub returns-in_ok-trial-in-Trial-clause-taken : goal.returns-in_ok-trial-in-Trial-clause-taken
+returns-in_ok-trial-in-Trial-clause-taken g c = if_told (g.S.Shelf.held c.args.shelf.now) _ (λ files told most is. omega arith)
+
+pub returns-in_err-trial-in-Trial-clause-taken : goal.returns-in_err-trial-in-Trial-clause-taken
+returns-in_err-trial-in-Trial-clause-taken g c = if_told (g.S.Shelf.held c.args.shelf.now) _ (λ files told most is. takes_nothing most _ _)

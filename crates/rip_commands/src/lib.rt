@@ -1,0 +1,151 @@
+//! The commands, one beside the other: what each comes to, and a whole run of one but for its printing.
+#![tactic(auto)]
+
+ghost use Rattle.std.specs.Prelude.{◌≡◌, ◌⊎◌, ℕ, Result, Ok, IfSome, IfOk, IsOk};
+ghost use Rattle.rip_outside.specs.Files.{Files};
+ghost use Rattle.rip_words.specs.declared.Command.{Command};
+ghost use Rattle.engine_steps.specs.Outcome.{Outcome};
+ghost use Rattle.std.specs.FinMap.{empty};
+ghost use Rattle.rip_outside.specs.Causes.{NoneFell};
+ghost use Rattle.rip_commands.specs.Look.{look};
+ghost use Rattle.column_map.specs.Columns.{IsOffset};
+ghost use Rattle.rip_words.specs.Command.{TrialIsInRange, offset_in};
+ghost use Rattle.rip_report.specs.Texts.{read_fault_line, refusal_line, write_fault_line};
+ghost use Rattle.engine_steps.specs.Steps.{EndsWithCause, Takes};
+ghost use Rattle.rip_commands.specs.Outcomes.{IsCommandOutcome, IsOutcomeOf, IsMostTaken};
+ghost use Rattle.engine_steps.specs.Outcome.{Leaves};
+ghost use Rattle.engine_steps.specs.Crashing.{CrashSafe};
+ghost use Rattle.rip_report.specs.declared.status.Status.{Status};
+ghost use Rattle.rip_commands.specs.Ran.{Comes, FaultsOfCommand, IsTrialRead, NeedsNoFile, Ran, TellsOf, ToldWithoutFiles, wanting, telling};
+
+use cmd_offsets::offsets;
+use cmd_register::register;
+use cmd_repair::repair;
+use cmd_sums::sums;
+use cmd_trial::trial;
+use cmd_verify::verify;
+use engine_steps::{Answer, Stop};
+use rip_outside::{Shelf, Text};
+use rip_report::{Status, refusal_text};
+use rip_words::Command;
+use std::alloc::{AllocError, Global};
+
+// Does a command, but for what is told of it.
+fn perform<S: Shelf>(alloc: Global, command: Command, shelf: &mut S) -> Result<Answer, Stop>
+    requires offset { IfSome (offset_in command) IsOffset }
+    requires trial { TrialIsInRange command }
+    ensures leaves { IfSome (S.held shelf.old) (λ files. Leaves (IsCommandOutcome command files) files result (S.held shelf.new)) }
+    ensures crashes { CrashSafe (IsCommandOutcome command) (IsOk result) (S.crashes shelf.old) (S.crashes shelf.new) }
+    ensures cause { EndsWithCause (S.faults shelf.old) (S.faults shelf.new) result }
+    ensures later { NoneFell (S.faults shelf.old) (S.faults shelf.new) }
+    ensures reads { FaultsOfCommand (Ok command) result }
+    ensures no_file { NeedsNoFile (Ok command) → Comes (IsCommandOutcome command empty) result }
+    ensures untouched { IsTrialRead (Ok command) → shelf.new ≡ shelf.old }
+    ensures taken { IfSome (S.held shelf.old) (λ files. (most : ℕ) → IsMostTaken (Ok command) files most → Takes most result (S.taken shelf.old) (S.taken shelf.new)) }
+{
+    match command {
+        Command::Register { input, rec, npar } => {
+            register(alloc, shelf, input.as_str(), rec.as_str(), npar)
+        }
+        Command::Verify { input, rec, offset } => {
+            verify(alloc, shelf, input.as_str(), rec.as_str(), offset)
+        }
+        Command::Offsets { input, rec } => offsets(alloc, shelf, input.as_str(), rec.as_str()),
+        Command::Repair {
+            input,
+            rec,
+            to,
+            offset,
+        } => repair(
+            alloc,
+            shelf,
+            input.as_str(),
+            rec.as_str(),
+            to.as_str(),
+            offset,
+        ),
+        Command::Sums { input } => sums(alloc, shelf, input.as_str()),
+        Command::Trial {
+            sectors,
+            seed,
+            shift,
+            hits,
+        } => Ok(Answer {
+            status: Status::Done,
+            text: trial(alloc, sectors, seed, shift, hits)?,
+        }),
+    }
+}
+
+// A line of its own.
+fn line_of(alloc: Global, line: &str) -> Result<Text, AllocError>
+    ensures { IfOk result (λ text. text ≡ line.now) }
+{
+    Ok(Text::of(String::from_str(alloc, line)?))
+}
+
+/// That memory was wanting, which is told without a text. It takes no memory.
+pub fn wanting(alloc: Global) -> Answer
+    ensures { result ≡ wanting }
+{
+    Answer {
+        status: Status::WantOfMemory,
+        text: Text::of(String::new(alloc)),
+    }
+}
+
+/// A refusal, told by its line; or that memory was wanting for the line.
+pub fn refuse(alloc: Global, status: Status) -> Answer
+    ensures { (result ≡ telling status (refusal_line status)) ⊎ (result ≡ wanting) }
+{
+    match refusal_text(alloc, &status) {
+        Ok(text) => Answer { status, text },
+        Err(_) => wanting(alloc),
+    }
+}
+
+// What is told of what a command came to. The lines of faults were made before the command began.
+fn told_of(alloc: Global, came: Result<Answer, Stop>, read_line: Text, write_line: Text) -> Answer
+    requires read { read_line ≡ read_fault_line }
+    requires write { write_line ≡ write_fault_line }
+    ensures { TellsOf came result }
+{
+    match came {
+        Ok(answer) => answer,
+        Err(Stop::Refused(status)) => refuse(alloc, status),
+        Err(Stop::ReadFault { call }) => Answer {
+            status: Status::ReadFault { call },
+            text: read_line,
+        },
+        Err(Stop::WriteFault { call }) => Answer {
+            status: Status::WriteFault { call },
+            text: write_line,
+        },
+        Err(Stop::Oom) => wanting(alloc),
+    }
+}
+
+/// Does a command but for its printing: a status, and the text that is to be printed.
+#[tactic(auto, using(engine_steps::proofs::CrashingLaws::safe_none))]
+pub fn tell<F: Shelf>(alloc: Global, command: Command, shelf: &mut F) -> Answer
+    requires offset { IfSome (offset_in command) IsOffset }
+    requires trial { TrialIsInRange command }
+    ensures ran { Ran (Ok command) (look F.Shelf shelf.old) (look F.Shelf shelf.new) result }
+    ensures crashes { CrashSafe (IsOutcomeOf (Ok command)) (result.status ≡ Status.Done) (F.crashes shelf.old) (F.crashes shelf.new) }
+    ensures no_file { ToldWithoutFiles (Ok command) result }
+{
+    let Ok(read_line) = line_of(alloc, "read fault\n") else {
+        return wanting(alloc);
+    };
+    let Ok(write_line) = line_of(alloc, "write fault\n") else {
+        return wanting(alloc);
+    };
+    let came = perform(alloc, command, shelf);
+    told_of(alloc, came, read_line, write_line)
+}
+
+/// The law of outcomes: the words, by their reading, and the files have at most one outcome, which is a status, a text and
+/// the names that are written with their bytes.
+pub fn laws()
+    ensures one_outcome { (read : Result Command ℕ) (files : Files) (a b : Outcome) → IsOutcomeOf read files a → IsOutcomeOf read files b → a ≡ b }
+{}
