@@ -144,6 +144,7 @@ fn pick_and_mend<const P: usize, S: Starts<P> + Drop>(
 }
 
 // A search over a rip, whose words are read once, for the stored parity.
+#[tactic(auto, using(rip_outside::proofs::ReadingLaws::reads_twice))]
 fn search_rip<const P: usize, S: Shelf>(
     alloc: Global,
     shelf: &mut S,
