@@ -32,6 +32,9 @@ use rip_outside::{Name, Shelf, Text};
 use rip_report::{Report, Status, text_of};
 use std::alloc::Global;
 
+// The words of a mended file that are read and written at a time: two pieces, since each costs a call of either kind.
+const WRITTEN_PIECE: usize = 2 * PIECE;
+
 fn mend_stop(fail: MendFail) -> Stop
     ensures { result ≡ mend_stop fail }
 {
@@ -70,8 +73,8 @@ fn write_repair<S: Shelf>(
         name: Name::copied(alloc, to)?,
     };
     let text = text_of(alloc, &written)?;
-    let mut words = zero_words(alloc, PIECE)?;
-    let mut bytes = zero_bytes(alloc, 2 * PIECE)?;
+    let mut words = zero_words(alloc, WRITTEN_PIECE)?;
+    let mut bytes = zero_bytes(alloc, 2 * WRITTEN_PIECE)?;
     match write_mended(
         shelf,
         image,
