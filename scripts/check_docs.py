@@ -20,6 +20,8 @@ import sys
 import tempfile
 from pathlib import Path
 
+import response_matches as response
+
 TOP = Path(__file__).resolve().parent.parent
 SECTOR_BYTES = 2_352
 STRIDE_BYTES = 2 * 11_760
@@ -36,6 +38,7 @@ ANSWERS = [
     ("offsets silent.wav silent.rpar", 0),
     ("repair second.wav disc.rpar out.wav", 0),
     ("sums rips/disc.cue", 0),
+    ("match rips/disc.cue responses/", 0),
     ("trial 100 7 -17 4", 0),
     ("trial 100 7 -17 47041", 0),
     ("trial 30 7 0 0", 0),
@@ -64,6 +67,9 @@ ANSWERS = [
     ("verify silent.wav silent.rpar", 21),
     ("verify other.wav disc.rpar --offset=0", 22),
     ("verify second.wav disc.rpar", 23),
+    ("match disc.wav responses/", 25),
+    ("match disc.wav disc.wav", 26),
+    ("match disc.wav disc.flac", 26),
     ("sums rips", 30),
     ("register disc.wav none/disc.rpar", 31),
     ("sums disc.wav > /dev/full", 32),
@@ -101,15 +107,31 @@ SHEET = 'FILE "01.wav" WAVE\n  TRACK 01 AUDIO\n    INDEX 01 00:00:00\nFILE "02.w
 
 
 def make_files(folder, audio):
-    """The files of the examples: a disc of 21 minutes, a later rip of it, a disc of two files and a sheet, and a folder."""
+    """The files of the examples: a disc of 21 minutes, a later rip of it, a disc of two files and a sheet, with a response, and a
+    folder."""
     (folder / "disc.wav").write_bytes(wav(audio))
     (folder / "second.wav").write_bytes(wav(second_rip(audio)))
     chance = random.Random(2)
     rips = folder / "rips"
     rips.mkdir()
-    (rips / "01.wav").write_bytes(wav(chance.randbytes(250 * SECTOR_BYTES)))
-    (rips / "02.wav").write_bytes(wav(chance.randbytes(300 * SECTOR_BYTES)))
+    one, two = chance.randbytes(250 * SECTOR_BYTES), chance.randbytes(300 * SECTOR_BYTES)
+    (rips / "01.wav").write_bytes(wav(one))
+    (rips / "02.wav").write_bytes(wav(two))
     (rips / "disc.cue").write_text(SHEET)
+    (folder / "responses").mkdir()
+    make_response(folder, (0, (0, 250), 550), one + two)
+
+
+def make_response(folder, layout, audio):
+    """A response for the disc: a block with its sums v2, and one of a pressing that is 664 samples late, with sums v1."""
+    samples = response.samples_of(struct.unpack(f"<{len(audio) // 2}H", audio))
+    tracks, *ids = response.ids_of(layout)
+    blocks = b""
+    for offset, confidence, kind in ((0, 12, 1), (664, 4, 0)):
+        blocks += struct.pack("<BIII", tracks, *ids)
+        for t in range(1, tracks + 1):
+            blocks += struct.pack("<BII", confidence, response.plain_sums(layout, samples, t, offset)[kind], 0)
+    (folder / response.response_name("responses/", layout)).write_bytes(blocks)
 
 
 def make_refused_files(folder, audio):

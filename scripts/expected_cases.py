@@ -5,8 +5,9 @@
     scripts/expected_cases.py SCRIPT           prints what a script's cases are to print
     .. --search CASE                           decides the searches of the case of this name too, some minutes each
 
-Decided are the words of the command line, what the readers of sheets, WAV files, layouts and records refuse, and the
-records that are stored. Sums, trials and other searches are passed over, and a case is left at a call that fails.
+Decided are the words of the command line, what the readers of sheets, WAV files, layouts, records and responses refuse,
+the records that are stored, and the matches with responses. Sums, trials and other searches are passed over, and a case
+is left at a call that fails.
 """
 
 import base64
@@ -17,11 +18,14 @@ import struct
 import sys
 
 import column_table as field
+import response_matches as response
 
 STRIDE = 11760
 HEADER = 44
 MOST_SECTORS = 445500
 MOST_BYTES = 1048576
+MOST_RESPONSE = 65536
+ROOM = 1048576  # the bytes that a run's output takes; of a longer text what fits goes out
 SLOW = 200  # a record of more sectors isn't computed, unless its case is searched
 
 
@@ -111,11 +115,24 @@ def is_offset_option(word):
     return word.startswith("--offset=") and is_offset(word[len("--offset=") :])
 
 
+def is_folder(word):
+    return is_name(word) and word.endswith("/")
+
+
+def is_joined(word):
+    file = word[word.rfind("/") + 1 :]
+    return is_name(word) and file != "" and not set(file) & set('"\r\n')
+
+
 COMMANDS = {
-    "register": ([is_name] * 2, lambda word: word in ("--npar=4", "--npar=8", "--npar=16")),
+    "register": ([is_name] * 2, lambda word: word in ("--npar=4", "--npar=8", "--npar=16", "--npar=32")),
     "verify": ([is_name] * 2, is_offset_option),
     "offsets": ([is_name] * 2, None),
     "repair": ([is_name] * 3, is_offset_option),
+    "upgrade": ([is_name] * 2, None),
+    "match": ([is_name] * 2, None),
+    "split": ([is_name, is_folder], None),
+    "join": ([is_name, is_joined], None),
     "sums": ([is_name], None),
     "trial": ([is_number(4, 30, 9000), is_number(10, 0, 2**32 - 1), is_offset, is_number(5, 0, 58800)], None),
 }
@@ -359,28 +376,36 @@ def parity_of(audio, parity):
     return [syndromes(parity, words, len(words) // 1176, STRIDE + j) for j in range(STRIDE)]
 
 
-def record_of(layout, audio, parity):
+def seal_of(words, offset):
+    """The SHA-256 of the words that stand in the columns of a rip at an offset."""
+    first = STRIDE + 2 * offset
+    covered = words[first : first + (len(words) // 1176 // 10 - 2) * STRIDE]
+    return hashlib.sha256(struct.pack(f"<{len(covered)}H", *covered)).digest()
+
+
+def record_of(layout, rows, seal):
     pregap, starts, sectors = layout
-    body = b"RIPPAR01" + struct.pack("<HBBII", parity, len(starts), 0, pregap, sectors)
+    body = b"RIPPAR02" + struct.pack("<HBBII", len(rows[0]), len(starts), 0, pregap, sectors)
     body += struct.pack(f"<{len(starts)}I", *starts)
-    body += b"".join(struct.pack(f"<{parity}H", *row) for row in parity_of(audio, parity))
+    body += b"".join(struct.pack(f"<{len(row)}H", *row) for row in rows) + seal
     return body + hashlib.sha256(body).digest()
 
 
 def record_layout(file):
     """The layout of a record, or why it is none."""
-    if file[:8] != b"RIPPAR01":
+    if file[:8] not in (b"RIPPAR01", b"RIPPAR02"):
         return "Mark"
     if len(file) < 20:
         return f"Length {len(file)} wanted 20"
     parity, tracks, spare, pregap, sectors = struct.unpack_from("<HBBII", file, 8)
-    if parity not in (4, 8, 16):
+    is_sealed = file[:8] == b"RIPPAR02"
+    if parity not in (4, 8, 16) and not (is_sealed and parity == 32):
         return f"Npar {parity}"
     if not 1 <= tracks <= 99:
         return f"Tracks {tracks}"
     if spare:
         return f"Spare {spare}"
-    length = 20 + 4 * tracks + 2 * STRIDE * parity + 32
+    length = 20 + 4 * tracks + 2 * STRIDE * parity + (64 if is_sealed else 32)
     if len(file) != length:
         return f"Length {len(file)} wanted {length}"
     starts = struct.unpack_from(f"<{tracks}I", file, 20)
@@ -406,13 +431,25 @@ def errors_at(words, table, sectors, offset):
     return wrong
 
 
-def near_offsets(words, table, sectors, offset):
-    """Each offset of the range, or the given one, at which the words are near, with the wrong words."""
+def mended_words(words, offset, wrong):
+    mended = list(words)
+    for j, errors in wrong.items():
+        for k, flip in errors:
+            mended[STRIDE + k * STRIDE + j + 2 * offset] ^= flip
+    return mended
+
+
+def agreeing_offsets(words, table, seal, sectors, offset):
+    """Each offset of the range, or the given one, at which the words that fit have the seal, with the wrong words."""
     offsets = range(-5879, 5880) if offset is None else [offset]
     found = [(d, errors_at(words, table, sectors, d)) for d in offsets]
     if offset is not None and isinstance(found[0][1], int):
         raise Refused(22, f"not near column {found[0][1]}")
-    return [(d, wrong) for d, wrong in found if not isinstance(wrong, int)]
+    near = [(d, wrong) for d, wrong in found if not isinstance(wrong, int)]
+    agreeing = [(d, wrong) for d, wrong in near if seal in (None, seal_of(mended_words(words, d, wrong), d))]
+    if offset is not None and not agreeing:
+        raise Refused(24, "seal differs")
+    return agreeing
 
 
 def candidate_line(offset, wrong):
@@ -425,7 +462,8 @@ def search_answer(command, audio, record, tracks, offset, rest, files):
     sectors, (parity,) = len(words) // 1176, struct.unpack_from("<H", record, 8)
     rows = struct.unpack_from(f"<{STRIDE * parity}H", record, 20 + 4 * tracks)
     table = [list(rows[parity * j : parity * (j + 1)]) for j in range(STRIDE)]
-    near = near_offsets(words, table, sectors, offset)
+    seal = record[-64:-32] if record[:8] == b"RIPPAR02" else None
+    near = agreeing_offsets(words, table, seal, sectors, offset)
     if not near:
         raise Refused(20, "no candidate")
     if command == "offsets":
@@ -433,12 +471,12 @@ def search_answer(command, audio, record, tracks, offset, rest, files):
     if len(near) > 1:
         raise Refused(21, f"several {near[0][0]:+} {near[1][0]:+}")
     (at, wrong), line = near[0], candidate_line(*near[0])
-    if command == "verify":
+    if command == "verify" or command == "upgrade" and wrong:
         return (23, f"{line}\nmendable") if wrong else (0, f"{line}\nverified")
-    mended = list(words)
-    for j, errors in wrong.items():
-        for k, flip in errors:
-            mended[STRIDE + k * STRIDE + j + 2 * at] ^= flip
+    if command == "upgrade":
+        files[rest[1]] = record_of(record_layout(record), table, seal_of(words, at))
+        return 0, f"{line}\nupgraded {rest[1]}"
+    mended = mended_words(words, at, wrong)
     files[rest[2]] = header(len(mended)) + struct.pack(f"<{len(mended)}H", *mended)
     return 0, f"{line}\nwritten {rest[2]}"
 
@@ -486,6 +524,62 @@ def check_free(files, name, names):
         raise Refused(17, f"exists {name}.part")
 
 
+def match_answer(files, layout, parts, asked):
+    name = response.response_name(asked, layout)
+    if name not in files:
+        raise Refused(25, f"no response {name}")
+    if len(files[name]) > MOST_RESPONSE:
+        raise Refused(26, "response TooLong")
+    blocks = response.blocks_of(files[name])
+    if isinstance(blocks, int):
+        raise Refused(26, f"response Cut at {blocks}")
+    audio = b"".join(files[file][at : at + 2 * count] for file, at, count in parts)
+    words = struct.unpack(f"<{len(audio) // 2}H", audio)
+    return 0, response.printed(response.matches_of(layout, words, blocks))
+
+
+def check_all_free(files, outs, names):
+    taken = [out for out in outs if out in files] + [out + ".part" for out in outs if out + ".part" in names]
+    if taken:
+        raise Refused(17, f"exists {taken[0]}")
+
+
+def time_text(sectors):
+    return f"{sectors // 75 // 60:02}:{sectors // 75 % 60:02}:{sectors % 75:02}"
+
+
+def sheet_text(pregap, entries):
+    """The sheet of tracks, each with the name of its file, if that isn't the one before's, and its time."""
+    lines = []
+    for track, (file, time) in enumerate(entries, 1):
+        lines += [f'FILE "{file}" WAVE'] if file else []
+        lines += [f"  TRACK {track:02} AUDIO"]
+        lines += [f"    PREGAP {time_text(pregap)}"] if track == 1 and pregap else []
+        lines += [f"    INDEX 01 {time_text(time)}"]
+    return "".join(f"{line}\n" for line in lines).encode()
+
+
+def written_anew(files, command, to, layout, parts, names):
+    """The answer of `split` or `join`."""
+    pregap, starts, sectors = layout
+    if command == "split":
+        tracks = [f"track{track:02}.wav" for track in range(1, len(starts) + 1)]
+        outs, sheet = [to + track for track in tracks], to + "disc.cue"
+        cuts, times = [0, *starts[1:], sectors], [starts[0]] + [0] * (len(starts) - 1)
+    else:
+        tracks = [to[to.rfind("/") + 1 :]] + [""] * (len(starts) - 1)
+        outs, sheet = [to], to + ".cue"
+        cuts, times = [0, sectors], starts
+    check_all_free(files, [*outs, sheet], names)
+    audio = b"".join(files[file][at : at + 2 * count] for file, at, count in parts)
+    for out, start, end in zip(outs, cuts, cuts[1:]):
+        files[out] = header(1176 * (end - start)) + audio[2352 * start : 2352 * end]
+    files[sheet] = sheet_text(pregap, zip(tracks, times))
+    for out in [*outs, sheet]:
+        files.pop(out + ".part", None)
+    return 0, f"split {to} tracks {len(starts)}" if command == "split" else f"joined {to} sectors {sectors}"
+
+
 def answer(files, words, is_searched):
     """The status and the text of a run."""
     check_words(words)
@@ -495,6 +589,10 @@ def answer(files, words, is_searched):
     layout, parts, names = opened(files, rest[0])
     if command == "sums":
         raise Undecided
+    if command == "match":
+        return match_answer(files, layout, parts, rest[1])
+    if command in ("split", "join"):
+        return written_anew(files, command, rest[1], layout, parts, names)
     if layout[2] < 30:
         raise Refused(14, f"layout TooShort sectors {layout[2]}")
     name = rest[1] + (store_key(layout) + ".rpar" if rest[1].endswith("/") else "")
@@ -505,15 +603,22 @@ def answer(files, words, is_searched):
         if isinstance(kept, str):
             raise Refused(16, f"record {kept}")
         check_kept(layout, kept)
+    if command == "upgrade":
+        if files[name][:8] == b"RIPPAR02":
+            raise Refused(19, f"sealed {name}")
+        if name + ".part" in [*names, name]:
+            raise Refused(17, f"exists {name}.part")
+        rest[1] = name
     if command in ("register", "repair"):
         to = name if command == "register" else rest[2]
         check_free(files, to, names + ([name] if command == "repair" else []))
     if (command == "register" and layout[2] > SLOW or command != "register") and not is_searched:
-        raise Left if command in ("register", "repair") else Undecided
+        raise Left if command in ("register", "repair", "upgrade") else Undecided
     audio = b"".join(files[file][at : at + 2 * count] for file, at, count in parts)
     option = rest[-1].partition("=")[2] if rest[-1].startswith("--") else ""
     if command == "register":
-        files[name] = record_of(layout, audio, int(option or 8))
+        words = struct.unpack(f"<{len(audio) // 2}H", audio)
+        files[name] = record_of(layout, parity_of(audio, int(option or 8)), seal_of(words, 0))
         return 0, f"registered {name} sectors {layout[2]} npar {option or 8}"
     return search_answer(command, audio, files[name], len(layout[1]), int(option) if option else None, rest, files)
 
@@ -530,6 +635,11 @@ def printed(files, line, is_searched):
         status, text = refused.args
     except Undecided:
         return None
+    whole = text.encode() + b"\n"
+    if len(whole) > ROOM:
+        status, whole = 32, whole[:ROOM]
+    if len(whole) > 1000:
+        return [line, f"status {status}", f"{len(whole)} bytes {hashlib.sha256(whole).hexdigest()}"]
     return [line, f"status {status}", *text.split("\n")]
 
 

@@ -1,11 +1,12 @@
 //! The command `offsets`: all offsets at which a rip agrees with a record.
 #![tactic(auto)]
 
-ghost use Rattle.std.specs.Prelude.{◌≡◌, ◌*◌, IfOk, IfSome, Some};
+ghost use Rattle.std.specs.Prelude.{◌≡◌, IfOk, IfSome, None, Some};
 ghost use Rattle.rip_outside.specs.Files.{Files};
 ghost use Rattle.rip_outside.specs.Reading.{OnlyReads};
 ghost use Rattle.rip_inputs.specs.Opening.{lengths_of};
-ghost use Rattle.engine_steps.specs.Steps.{EndsWithCause, IsAnswered, OnlyRefuses, Takes};
+ghost use Rattle.engine_steps.specs.Steps.{EndsWithCause, IsAnswered, OnlyRefuses, compared};
+ghost use Rattle.engine_search.specs.Agreement.{TakesCompared};
 ghost use Rattle.cmd_offsets.specs.OffsetsOutcome.{IsOffsetsOutcome, listed};
 ghost use Rattle.engine_steps.specs.Outcome.{Leaves};
 ghost use Rattle.engine_steps.specs.Comparing.{compared_names};
@@ -17,7 +18,7 @@ use rip_outside::Shelf;
 use rip_report::{Report, Status, text_of};
 use std::alloc::Global;
 
-// What is told of all offsets at which a rip is near a record.
+// What is told of all offsets at which a rip agrees with a record.
 fn tell(alloc: Global, found: Vec<Candidate>) -> Result<Answer, Stop>
     ensures tells { (files : Files) → Leaves (λ outcome. outcome ≡ listed found.items) files result (Some files) }
     ensures answers { IfOk result (λ answer. IsAnswered answer.status) }
@@ -34,7 +35,7 @@ fn tell(alloc: Global, found: Vec<Candidate>) -> Result<Answer, Stop>
     })
 }
 
-/// Lists all offsets at which a rip is near a record.
+/// Lists all offsets at which a rip agrees with a record.
 pub fn offsets<S: Shelf>(
     alloc: Global,
     shelf: &mut S,
@@ -44,14 +45,15 @@ pub fn offsets<S: Shelf>(
     ensures leaves { IfSome (S.held shelf.old) (λ files. Leaves (IsOffsetsOutcome input.now rec.now files) files result (S.held shelf.new)) }
     ensures cause { EndsWithCause (S.faults shelf.old) (S.faults shelf.new) result }
     ensures only { OnlyReads S.Shelf shelf.old shelf.new }
-    ensures taken { IfSome (S.held shelf.old) (λ files. Takes (3 * lengths_of (compared_names input.now rec.now files) files) result (S.taken shelf.old) (S.taken shelf.new)) }
+    ensures taken { IfSome (S.held shelf.old) (λ files. TakesCompared (compared input.now rec.now files) None 3 (lengths_of (compared_names input.now rec.now files) files) result (S.taken shelf.old) (S.taken shelf.new)) }
 {
     let Compared {
         image,
         shape,
         parity,
+        seal,
         ..
     } = compare(alloc, shelf, input, rec)?;
-    let found = list_of(alloc, shelf, &image, shape, parity)?;
+    let found = list_of(alloc, shelf, &image, shape, parity, seal)?;
     tell(alloc, found)
 }

@@ -20,7 +20,7 @@ ghost use Rattle.engine_words.specs.Records.{record_of};
 use column_map::{Npar, Shape};
 use disc_toc::Layout;
 use engine_steps::{Answer, Stop, check_free, is_among, open_measured, part_name, write_out};
-use engine_words::parity_of;
+use engine_words::parity_and_seal;
 use image_mender::Image;
 use parity_store::{Record, record_bytes, record_name};
 use rip_inputs::Rip;
@@ -28,7 +28,7 @@ use rip_outside::{Name, Shelf};
 use rip_report::{Report, text_of};
 use std::alloc::Global;
 
-/// Stores a rip that was opened: its parity is summed, and the record stands under its name.
+// Stores a rip that was opened: its parity is summed, and its seal, and the record stands under its name.
 #[tactic(auto, using(engine_steps::proofs::CrashingLaws::safe_rests))]
 fn store<S: Shelf>(
     alloc: Global,
@@ -52,9 +52,15 @@ fn store<S: Shelf>(
     ensures taken { Takes (2 * word_count image.now) result (S.taken shelf.old) (S.taken shelf.new) }
 {
     let sectors = layout.sectors;
-    let parity = parity_of(alloc, shelf, image, shape, npar)?;
+    let (parity, seal) = parity_and_seal(alloc, shelf, image, shape, npar)?;
     let npar = parity.count() as u32;
-    let bytes = record_bytes(alloc, &Record { layout, parity })?;
+    let seal = Some(seal);
+    let record = Record {
+        layout,
+        parity,
+        seal,
+    };
+    let bytes = record_bytes(alloc, &record)?;
     let registered = Report::Registered {
         name: Name::copied(alloc, name)?,
         sectors,

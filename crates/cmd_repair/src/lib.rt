@@ -13,7 +13,8 @@ ghost use Rattle.wav_frames.specs.Wav.{wav_bytes};
 ghost use Rattle.image_mender.specs.declared.image.Part.{Part};
 ghost use Rattle.image_mender.specs.Joined.{AreInFiles, joined_words, word_count};
 ghost use Rattle.image_mender.specs.Patched.{patched};
-ghost use Rattle.engine_steps.specs.Steps.{EndsWithCause, StopsWithCause, Takes, compared, mend_stop};
+ghost use Rattle.engine_steps.specs.Steps.{EndsWithCause, StopsWithCause, Takes, compared};
+ghost use Rattle.engine_search.specs.Agreement.{TakesCompared};
 ghost use Rattle.engine_search.specs.Picking.{PicksCompared};
 ghost use Rattle.rip_report.specs.Texts.{written_text};
 ghost use Rattle.rip_inputs.specs.Opening.{lengths_of};
@@ -25,25 +26,16 @@ ghost use Rattle.engine_steps.specs.Comparing.{compared_names};
 use column_map::Candidate;
 use engine_search::{Picked, mend_of};
 use engine_steps::{
-    Answer, Compared, PIECE, Stop, check_free, compare, is_read, part_name, zero_bytes, zero_words,
+    Answer, Compared, PIECE, Stop, check_free, compare, is_read, mend_stop, part_name, zero_bytes,
+    zero_words,
 };
-use image_mender::{Image, MendFail, write_mended};
+use image_mender::{Image, write_mended};
 use rip_outside::{Name, Shelf, Text};
 use rip_report::{Report, Status, text_of};
 use std::alloc::Global;
 
 // The words of a mended file that are read and written at a time: two pieces, since each costs a call of either kind.
 const WRITTEN_PIECE: usize = 2 * PIECE;
-
-fn mend_stop(fail: MendFail) -> Stop
-    ensures { result ≡ mend_stop fail }
-{
-    match fail {
-        MendFail::ReadFault { call } => Stop::ReadFault { call },
-        MendFail::WriteFault { call } => Stop::WriteFault { call },
-        MendFail::Oom => Stop::Oom,
-    }
-}
 
 // Writes the rip's words, mended, under the output's name. All memory is taken before.
 #[tactic(auto, using(engine_steps::proofs::CrashingLaws::safe_none))]
@@ -106,19 +98,21 @@ pub fn mend<S: Shelf>(
     ensures picks { IfSome (S.held shelf.old) (λ files. IfOk result (λ told. PicksCompared (compared input.now rec.now files) offset told.0)) }
     ensures cause { StopsWithCause (S.faults shelf.old) (S.faults shelf.new) result }
     ensures later { NoneFell (S.faults shelf.old) (S.faults shelf.new) }
-    ensures taken { IfSome (S.held shelf.old) (λ files. Takes (3 * lengths_of (compared_names input.now rec.now files) files) result (S.taken shelf.old) (S.taken shelf.new)) }
+    ensures taken { IfSome (S.held shelf.old) (λ files. TakesCompared (compared input.now rec.now files) offset 3 (lengths_of (compared_names input.now rec.now files) files) result (S.taken shelf.old) (S.taken shelf.new)) }
 {
     let Compared {
         image,
         shape,
         parity,
+        seal,
         names,
         rec: name,
+        ..
     } = compare(alloc, shelf, input, rec)?;
     let part = part_name(alloc, to)?;
     let is_read = is_read(part.as_str(), names.as_slice(), name.as_str());
     check_free(alloc, shelf, to, part.as_str(), is_read)?;
-    let picked = mend_of(alloc, shelf, &image, shape, parity, offset)?;
+    let picked = mend_of(alloc, shelf, &image, shape, parity, seal, offset)?;
     write_repair(alloc, shelf, &image, &picked, part.as_str(), to)
 }
 
@@ -136,7 +130,7 @@ pub fn repair<S: Shelf>(
     ensures crashes { CrashSafe (IsRepairOutcome input.now rec.now to.now offset) (IsOk result) (S.crashes shelf.old) (S.crashes shelf.new) }
     ensures cause { EndsWithCause (S.faults shelf.old) (S.faults shelf.new) result }
     ensures later { NoneFell (S.faults shelf.old) (S.faults shelf.new) }
-    ensures taken { IfSome (S.held shelf.old) (λ files. Takes (3 * lengths_of (compared_names input.now rec.now files) files) result (S.taken shelf.old) (S.taken shelf.new)) }
+    ensures taken { IfSome (S.held shelf.old) (λ files. TakesCompared (compared input.now rec.now files) offset 3 (lengths_of (compared_names input.now rec.now files) files) result (S.taken shelf.old) (S.taken shelf.new)) }
 {
     match mend(alloc, shelf, input, rec, to, offset) {
         Ok((_, text)) => Ok(Answer {

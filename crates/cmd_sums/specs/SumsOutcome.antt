@@ -1,5 +1,5 @@
 -- What `sums` comes to: the sums of a disc's tracks, whose words stand one track's after another's.
-use Rattle.std.specs.Prelude.{ℕ, ◌+◌, ◌*◌, ◌==◌, nat_lt, if◌then◌else◌, List, length, map, slice_index, slice_range, ◌≡◌}
+use Rattle.std.specs.Prelude.{ℕ, ◌+◌, ◌*◌, ◌==◌, List, length, map, slice_range, ◌≡◌}
 use Rattle.std.specs.List.{range_with_len}
 use Rattle.disc_toc.specs.Toc.{Toc}
 use Rattle.accurip_sums.specs.Track.{track_sums}
@@ -9,10 +9,7 @@ use Rattle.engine_steps.specs.Steps.{opened}
 use Rattle.rip_report.specs.Sums.{sums_text}
 use Rattle.rip_report.specs.declared.status.Status.TheVariants.{Done}
 use Rattle.engine_steps.specs.Outcome.{Outcome, answered, Then}
-
--- the sector in which the track begins before which there are i, or where the audio ends that follows the last
-unfoldable pub begin_of : Toc → ℕ → ℕ
-begin_of toc i = if nat_lt i (length toc.starts) then slice_index toc.starts i else toc.sectors
+use Rattle.engine_sums.specs.Tracks.{begin_of}
 
 -- the words of a track: it runs to where the next one begins
 unfoldable pub track_words : Toc → List ℕ → ℕ → List ℕ

@@ -1,13 +1,16 @@
 -- The files of a trial, and what is read of them.
 use Rattle.std.proofs.Common.{◌≡◌, ◌≢◌, ◌∙◌, ◌+◌, ◌*◌, ◌/◌, ◌%◌, ◌≤◌, ◌^◌, ℕ, zero, suc, List, [], ◌∷◌, length, true, false, None, Some, Ok, refl, sym, ap, arith, ℤ}
-use Rattle.std.specs.Prelude.{◌==◌, codes, nat_lt}
+use Rattle.std.specs.Prelude.{◌==◌, Contains, codes, nat_lt}
 use Rattle.std.specs.FinMap.{empty, get, get-empty, remove}
 use Rattle.std.specs.Str.{bytes_eq}
 use Rattle.std.proofs.lemmas.Bool.Decides.{nat_tests}
 use Rattle.std.proofs.lemmas.Slice.Eq.{bytes_eq-Decides}
 use Rattle.rip_outside.specs.Files.{Files}
 use Rattle.rip_outside.proofs.FilesLaws.{get-insert_same, get-insert_other, get-remove_other}
-use Rattle.column_map.specs.Columns.{IsSectorCount, per_column}
+use Rattle.column_map.specs.Columns.{IsSectorCount, per_column, table_of_image}
+use Rattle.sha2.proofs.Facts256.{length-sha256}
+use Rattle.image_mender.specs.Seal.{seal_of_table}
+use Rattle.image_mender.proofs.SealLaws.{AreBytes-seal}
 use Rattle.column_map.specs.Image.{AreWords}
 use Rattle.syndrome_stream.specs.Parity.{image_parity}
 use Rattle.syndrome_stream.proofs.ParityLaws.{AreRows-image_parity}
@@ -21,7 +24,8 @@ use Rattle.parity_store.proofs.WrittenLaws.{written}
 use Rattle.rip_inputs.specs.Opening.{Opened, is_sheet, rip_reading, wav_opened}
 use Rattle.rip_inputs.proofs.OneFileLaws.{rip_reading-wav}
 use Rattle.rip_outside.specs.Outputs.{part_of}
-use Rattle.engine_steps.specs.Steps.{compared, free, measured, opened, record_found, record_read, recorded, rip_read}
+use Rattle.engine_steps.specs.Steps.{compared, measured, opened, record_found, record_read, recorded, rip_read}
+use Rattle.engine_steps.proofs.NameLaws.{unread_differs}
 use Rattle.engine_words.specs.Records.{record_of}
 use Rattle.trial_disc.specs.Generated.{generated, state}
 use Rattle.trial_disc.specs.Damaged.{damaged, late, late_word}
@@ -98,6 +102,10 @@ out_differs = (
 abbrev pub trial_names : List (List ℕ)
 trial_names = codes "rip.wav" ∷ (codes "disc.rpar" ∷ [])
 
+-- no part of the mended rip is read
+pub unread : (name : List ℕ) → Contains trial_names name → name ≢ codes "out.wav.part"
+unread name named = unread_differs (codes "out.wav.part") trial_names name refl named
+
 -- ---- the disc alone
 
 module _ (sectors : ℕ) (disc : List ℕ) (range : IsSectorCount sectors) (whole : length disc ≡ 1176 * sectors) where
@@ -105,16 +113,13 @@ module _ (sectors : ℕ) (disc : List ℕ) (range : IsSectorCount sectors) (whol
   unfolding disc_files
   disc_measured = measured_wav (codes "disc.wav") disc sectors (disc_files disc) refl (get-insert_same empty (codes "disc.wav") (wav_bytes disc)) range whole
 
-  pub record_free : free (codes "disc.rpar" ∷ []) (codes "disc.wav" ∷ []) (disc_files disc) ≡ Ok tt
+  pub record_absent : get (disc_files disc) (codes "disc.rpar") ≡ None
   unfolding disc_files
-  record_free =
-      let none : get (disc_files disc) (codes "disc.rpar") ≡ None =
-      get-insert_other empty (codes "disc.wav") (wav_bytes disc) (codes "disc.rpar") record_differs ∙ get-empty _ (codes "disc.rpar") in
-      rw none refl
+  record_absent = get-insert_other empty (codes "disc.wav") (wav_bytes disc) (codes "disc.rpar") record_differs ∙ get-empty _ (codes "disc.rpar")
 
   -- ---- the disc's record and a rip
 
-  storable : AreWords disc → IsStorable record { toc = one_track_of sectors; count = 8; rows = image_parity 8 (per_column sectors) disc }
+  storable : AreWords disc → IsStorable record { toc = one_track_of sectors; count = 8; rows = image_parity 8 (per_column sectors) disc; seal = Some (seal_of_table (per_column sectors) (table_of_image disc)) }
   storable words =
       let least : 30 ≤ sectors = range.0 in
       let most : sectors ≤ 445500 = range.1 in
@@ -123,6 +128,7 @@ module _ (sectors : ℕ) (disc : List ℕ) (range : IsSectorCount sectors) (whol
         long = least;
         known = refl;
         rows = AreRows-image_parity 8 (per_column sectors) disc words;
+        seal = record { bytes = AreBytes-seal _; size = length-sha256 _ };
       }
 
   module _ (rip : List ℕ) where
@@ -132,7 +138,7 @@ module _ (sectors : ℕ) (disc : List ℕ) (range : IsSectorCount sectors) (whol
         get-insert_other (registered_files sectors disc) (codes "rip.wav") (wav_bytes rip) (codes "disc.rpar") rip_differs
         ∙ get-insert_same (remove (disc_files disc) (part_of (codes "disc.rpar"))) (codes "disc.rpar") (record_of 8 (one_track_of sectors) disc)
 
-    record_found_so : AreWords disc → recorded (codes "disc.rpar") (trial_files sectors disc rip) ≡ Ok record { toc = one_track_of sectors; count = 8; rows = image_parity 8 (per_column sectors) disc }
+    record_found_so : AreWords disc → recorded (codes "disc.rpar") (trial_files sectors disc rip) ≡ Ok record { toc = one_track_of sectors; count = 8; rows = image_parity 8 (per_column sectors) disc; seal = Some (seal_of_table (per_column sectors) (table_of_image disc)) }
     record_found_so words = ap (record_found (codes "disc.rpar")) record_held ∙ ap record_read (written _ (storable words))
 
     rip_held : get (trial_files sectors disc rip) (codes "rip.wav") ≡ Some (wav_bytes rip)
@@ -146,17 +152,14 @@ module _ (sectors : ℕ) (disc : List ℕ) (range : IsSectorCount sectors) (whol
         let same = difference_of-same (one_track_of sectors) in
         rw (read, found, same) refl
 
-    pub out_free : free (codes "out.wav" ∷ []) trial_names (trial_files sectors disc rip) ≡ Ok tt
+    pub out_absent : get (trial_files sectors disc rip) (codes "out.wav") ≡ None
     unfolding trial_files registered_files disc_files
-    out_free =
-        let registered = registered_files sectors disc in
-        let none : get (trial_files sectors disc rip) (codes "out.wav") ≡ None =
-        get-insert_other registered (codes "rip.wav") (wav_bytes rip) (codes "out.wav") out_differs.0
+    out_absent =
+        get-insert_other (registered_files sectors disc) (codes "rip.wav") (wav_bytes rip) (codes "out.wav") out_differs.0
         ∙ get-insert_other (remove (disc_files disc) (part_of (codes "disc.rpar"))) (codes "disc.rpar") (record_of 8 (one_track_of sectors) disc) (codes "out.wav") out_differs.1
         ∙ get-remove_other (disc_files disc) (part_of (codes "disc.rpar")) (codes "out.wav") out_differs.2
         ∙ get-insert_other empty (codes "disc.wav") (wav_bytes disc) (codes "out.wav") out_differs.3
-        ∙ get-empty _ (codes "out.wav") in
-        rw none refl
+        ∙ get-empty _ (codes "out.wav")
 
     -- ---- the mended rip
 

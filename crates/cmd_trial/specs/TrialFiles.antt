@@ -1,10 +1,11 @@
 -- The files of a trial, which stand on a shelf of its own.
-use Rattle.std.specs.Prelude.{◌≡◌, ℕ, List, None, Result, IfOk, codes}
+use Rattle.std.specs.Prelude.{◌≡◌, ℕ, ◌*◌, List, None, Result, IfOk, codes, length}
 use Rattle.std.specs.FinMap.{empty, insert}
 use Rattle.rip_outside.specs.Files.{Files, after_put}
 use Rattle.disc_toc.specs.OneTrack.{one_track_of}
 use Rattle.wav_frames.specs.Wav.{wav_bytes}
 use Rattle.rip_outside.specs.Outputs.{part_of}
+use Rattle.column_map.specs.Columns.{IsSectorCount}
 use Rattle.column_map.specs.declared.candidate.Candidate.{Candidate}
 use Rattle.rip_report.specs.declared.status.Status.{Status}
 use Rattle.engine_words.specs.Records.{record_of}
@@ -14,6 +15,10 @@ use Rattle.cmd_trial.specs.TrialOutcome.{known_rip}
 -- the disc's image alone
 unfoldable pub disc_files : List ℕ → Files
 disc_files disc = insert empty (codes "disc.wav") (wav_bytes disc)
+
+-- a disc of so many sectors stands on the shelf, and nothing else
+abbrev pub IsAlone : ℕ → List ℕ → Files → Type 0
+IsAlone sectors disc files = IsSectorCount sectors × (length disc ≡ 1176 * sectors) × (files ≡ disc_files disc)
 
 -- and its record, with 8 parity words for each column
 unfoldable pub registered_files : ℕ → List ℕ → Files

@@ -1,6 +1,7 @@
 -- What a trial tells: a disc that a seed makes, and what its record does for a late and damaged rip of it.
-use Rattle.std.specs.Prelude.{◌≡◌, ℕ, ◌*◌, ◌↔◌, IsTrue, List, Result, Ok, Err, None, ℤ}
-use Rattle.column_map.specs.Columns.{per_column}
+use Rattle.std.specs.Prelude.{◌≡◌, ℕ, ◌*◌, ◌↔◌, IsTrue, List, Result, Ok, Err, None, Some, ℤ}
+use Rattle.column_map.specs.Columns.{per_column, table_of_image}
+use Rattle.image_mender.specs.Seal.{seal_of_table}
 use Rattle.column_map.specs.declared.candidate.Candidate.{Candidate}
 use Rattle.syndrome_stream.specs.Parity.{image_parity}
 use Rattle.trial_disc.specs.Generated.{generated}
@@ -24,9 +25,10 @@ trial_disc_words seed sectors = generated seed (1176 * sectors)
 unfoldable pub trial_rip_words : ℕ → ℕ → ℤ → ℕ → List ℕ
 trial_rip_words sectors seed shift hits = damaged (per_column sectors) shift hits (late (trial_disc_words seed sectors) shift)
 
--- a rip with these words, and the record of a disc with these, which has 8 parity words for each column
+-- a rip with these words, and the record of a disc with these, which has 8 parity words for each column and a seal
 abbrev pub known_rip : ℕ → List ℕ → List ℕ → Known
-known_rip sectors disc rip = known_from sectors rip 8 (image_parity 8 (per_column sectors) disc)
+known_rip sectors disc rip =
+    known_from sectors rip 8 (image_parity 8 (per_column sectors) disc) (Some (seal_of_table (per_column sectors) (table_of_image disc)))
 
 abbrev pub trial_known : ℕ → ℕ → ℤ → ℕ → Known
 trial_known sectors seed shift hits = known_rip sectors (trial_disc_words seed sectors) (trial_rip_words sectors seed shift hits)

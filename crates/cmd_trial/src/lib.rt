@@ -1,21 +1,33 @@
 //! The command `trial`: a disc that a seed makes is registered, and a late and damaged rip of it mended, on a shelf of their own.
 #![tactic(auto)]
 
-ghost use Rattle.std.specs.Prelude.{◌≡◌, ◌*◌, ◌≤◌, length, Ok, IfOk, OnOk};
-ghost use Rattle.std.specs.FinMap.{empty, insert};
+ghost use Rattle.std.specs.Prelude.{◌≡◌, ◌≢◌, ◌*◌, ◌<◌, ◌≤◌, ℕ, All, List, length, Ok, None, IfOk, OnOk, codes};
+ghost use Rattle.std.specs.List.Sorted.{IsStrictlyIncreasing};
+ghost use Rattle.std.specs.FinMap.{empty, get, insert};
+ghost use Rattle.rip_outside.specs.Files.{after_put};
 ghost use Rattle.column_map.specs.Columns.{IsSectorCount};
+ghost use Rattle.column_map.specs.Mending.{places};
+ghost use Rattle.disc_toc.specs.OneTrack.{one_track_of};
 ghost use Rattle.wav_frames.specs.Wav.{wav_bytes};
+ghost use Rattle.image_mender.specs.declared.image.Part.{Part};
+ghost use Rattle.image_mender.specs.Joined.{AreInFiles, joined_words, word_count};
+ghost use Rattle.image_mender.specs.Patched.{patched};
 ghost use Rattle.rip_inputs.specs.Opening.{Opened};
 ghost use Rattle.rip_words.specs.Command.{IsTrial};
 ghost use Rattle.engine_steps.specs.Steps.{opened};
+ghost use Rattle.engine_words.specs.Records.{record_of};
 ghost use Rattle.cmd_trial.specs.TrialOutcome.{IsTrialEnd, IsTrialText, known_rip};
-ghost use Rattle.cmd_trial.specs.TrialFiles.{IsMendedTrial, registered_files};
+ghost use Rattle.cmd_trial.specs.TrialFiles.{IsAlone, IsMendedTrial, registered_files};
 
 use byteorder::{ByteOrder, LittleEndian};
-use cmd_register::register;
-use cmd_repair::mend;
 use column_map::{Candidate, Npar, Shape};
-use engine_steps::{PIECE, Stop, open_input, zero_bytes, zero_words};
+use engine_search::{Picked, mend_of};
+use engine_steps::{
+    Compared, PIECE, Stop, compare, open_input, open_measured, zero_bytes, zero_words,
+};
+use engine_words::parity_and_seal;
+use image_mender::{Image, MendFail, write_mended};
+use parity_store::{PutFail, Record, put, record_bytes};
 use rip_memory::{QuietShelf, fill};
 use rip_outside::{Oom, ShelfFail, Text};
 use rip_report::{Report, Status, TrialResult, text_of};
@@ -60,6 +72,24 @@ fn store_wav(alloc: Global, shelf: &mut QuietShelf, name: &str, words: &[u16]) -
     }
 }
 
+// The bytes of the record of a disc that stands on the shelf alone.
+fn record_disc(alloc: Global, shelf: &mut QuietShelf) -> Result<Vec<u8>, Oom>
+    requires alone { (sectors : ℕ) × (disc : List ℕ) × IsAlone sectors disc shelf.old.files }
+    ensures record { (sectors : ℕ) (disc : List ℕ) → IsAlone sectors disc shelf.old.files → IfOk result (λ bytes. bytes.items ≡ record_of 8 (one_track_of sectors) disc) }
+    ensures same { shelf.new.files ≡ shelf.old.files }
+{
+    let (rip, shape) = open_measured(alloc, shelf, "disc.wav").map_err(wanted)?;
+    let (parity, seal) = parity_and_seal(alloc, shelf, &rip.image, shape, Npar::Eight).map_err(
+        wanted,
+    )?;
+    let record = Record {
+        layout: rip.layout,
+        parity,
+        seal: Some(seal),
+    };
+    record_bytes(alloc, &record)
+}
+
 // Registers a disc with these words: its image and its record stand on the shelf.
 fn register_disc(
     alloc: Global,
@@ -73,9 +103,42 @@ fn register_disc(
     ensures { OnOk result (shelf.new.files ≡ registered_files shape disc.now) }
 {
     store_wav(alloc, shelf, "disc.wav", disc)?;
-    match register(alloc, shelf, "disc.wav", "disc.rpar", Npar::Eight) {
-        Ok(_) => Ok(()),
-        Err(stop) => Err(wanted(stop)),
+    let bytes = record_disc(alloc, shelf)?;
+    match put(shelf, &bytes, "disc.rpar.part", "disc.rpar") {
+        Ok(()) => Ok(()),
+        Err(PutFail::Oom) => Err(Oom),
+        Err(PutFail::WriteFault { .. }) => unreachable!(),
+    }
+}
+
+// Writes a rip that was read, mended, beside it.
+fn write_rip(
+    alloc: Global,
+    shelf: &mut QuietShelf,
+    image: &Image,
+    picked: &Picked,
+) -> Result<(), Oom>
+    requires inside { AreInFiles image.now shelf.old.files }
+    requires lie { All (λ place. place < word_count image.now) (places picked.now.fixes.items) }
+    requires rising { IsStrictlyIncreasing (places picked.now.fixes.items) }
+    requires apart { All (λ (p : Part). p.name ≢ codes "out.wav.part") image.now }
+    requires free { get shelf.old.files (codes "out.wav") ≡ None }
+    ensures { OnOk result (shelf.new.files ≡ after_put (codes "out.wav.part") (codes "out.wav") (wav_bytes (patched picked.now.fixes.items (joined_words image.now shelf.old.files))) shelf.old.files) }
+{
+    let mut words = zero_words(alloc, PIECE)?;
+    let mut bytes = zero_bytes(alloc, 2 * PIECE)?;
+    match write_mended(
+        shelf,
+        image,
+        &picked.fixes,
+        "out.wav.part",
+        "out.wav",
+        &mut words,
+        &mut bytes,
+    ) {
+        Ok(()) => Ok(()),
+        Err(MendFail::Oom) => Err(Oom),
+        Err(MendFail::ReadFault { .. } | MendFail::WriteFault { .. }) => unreachable!(),
     }
 }
 
@@ -94,8 +157,18 @@ fn mend_rip(
     ensures { IfOk result (λ picked. IsMendedTrial shape disc.now rip.now picked shelf.new.files) }
 {
     store_wav(alloc, shelf, "rip.wav", rip)?;
-    match mend(alloc, shelf, "rip.wav", "disc.rpar", "out.wav", None) {
-        Ok((at, _)) => Ok(Ok(at)),
+    let Compared {
+        image,
+        shape,
+        parity,
+        seal,
+        ..
+    } = compare(alloc, shelf, "rip.wav", "disc.rpar").map_err(wanted)?;
+    match mend_of(alloc, shelf, &image, shape, parity, seal, None) {
+        Ok(picked) => {
+            write_rip(alloc, shelf, &image, &picked)?;
+            Ok(Ok(picked.at))
+        }
         Err(Stop::Refused(status)) => Ok(Err(status)),
         Err(Stop::Oom) => Err(Oom),
         Err(Stop::ReadFault { .. } | Stop::WriteFault { .. }) => unreachable!(),

@@ -1,2 +1,3 @@
 pub mod MendingLaws
 pub mod PlaceLaws
+pub mod TableWords

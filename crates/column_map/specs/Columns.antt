@@ -1,5 +1,6 @@
 -- The columns of an image, and where a rip at an offset has their words.
-use Rattle.std.specs.Prelude.{◌≡◌, ℕ, ◌+◌, ◌-◌, ◌*◌, ◌/◌, ◌<◌, ◌≤◌, List, slice_index, suc, ℤ, pos, negsuc, ◌≤ℤ◌}
+use Rattle.std.specs.Prelude.{◌≡◌, ℕ, ◌+◌, ◌-◌, ◌*◌, ◌/◌, ◌%◌, ◌<◌, ◌≤◌, List, map, slice_index, suc, ℤ, pos, negsuc, ◌≤ℤ◌}
+use Rattle.std.specs.List.{range_with_len}
 use Rattle.rip_basics.specs.Disc.{most_sectors}
 
 -- a stride: the words of 10 sectors, and the number of columns
@@ -49,3 +50,12 @@ WordTable = ℕ → ℕ → ℕ
 -- the word that a rip at the offset d has as word k of column j
 abbrev pub rip_word : List ℕ → ℤ → WordTable
 rip_word rip d j k = slice_index rip (place d j k)
+
+-- the word table that an image has: its covered words
+abbrev pub table_of_image : List ℕ → WordTable
+table_of_image image j k = slice_index image (stride + k * stride + j)
+
+-- The words of a table, of columns of c words, in the order in which an image has them: word 0 of each column, then word 1 of each,
+-- and so on.
+abbrev pub table_words : ℕ → WordTable → List ℕ
+table_words c table = map (λ i. table (i % stride) (i / stride)) (range_with_len 0 (c * stride))

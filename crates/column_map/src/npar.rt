@@ -6,4 +6,5 @@ pub enum Npar {
     Four,
     Eight,
     Sixteen,
+    ThirtyTwo,
 }

@@ -1,6 +1,6 @@
 -- What holds of a sheet before a line holds after it.
-use Rattle.std.proofs.Common.{◌≡◌, ℕ, zero, suc, ◌+◌, ◌-◌, ◌*◌, ◌<◌, ◌≤◌, List, [], ◌∷◌, ◌++◌, length, Bool, true, false, cond, Option, None, Some, Result, Ok, inl, inr, refl, sym, subst, arith, length-append}
-use Rattle.std.specs.Prelude.{◌==◌, ◌&&◌, not, IfSome, IfOk}
+use Rattle.std.proofs.Common.{◌≡◌, ℕ, zero, suc, ◌+◌, ◌-◌, ◌*◌, ◌<◌, ◌≤◌, List, [], ◌∷◌, ◌++◌, length, Bool, true, false, cond, Option, None, Some, Result, Ok, Err, ap, inl, inr, refl, sym, subst, arith, length-append}
+use Rattle.std.specs.Prelude.{◌==◌, ◌&&◌, not, IfSome, IfOk, unwrap_or}
 use Rattle.std.proofs.lemmas.Bool.Decides.{nat_tests}
 use Rattle.std.proofs.lemmas.Bool.{eqb-true, ltb-true, leb-true}
 use Rattle.std.proofs.lemmas.List.Elements.{All-push}
@@ -8,10 +8,12 @@ use Rattle.std.proofs.lemmas.List.Quantifiers.{all_pairs_push}
 use Rattle.cue_sheet.specs.declared.command.Command.{Command}
 use Rattle.cue_sheet.specs.declared.command.Command.TheVariants.{Unread, File, Track, Index, Pregap, Postgap}
 use Rattle.cue_sheet.specs.declared.fail.CueKind.{CueKind}
+use Rattle.cue_sheet.specs.declared.fail.CueKind.TheVariants.{NoIndex01, NoTracks}
+use Rattle.cue_sheet.specs.Lines.{lines_of, without_mark}
 use Rattle.cue_sheet.specs.declared.sheet.CueTrack.{CueTrack}
 use Rattle.cue_sheet.specs.Parts.{number_under, time_sectors, time_of}
-use Rattle.cue_sheet.specs.Sheet.{IsTime, IsPlaced}
-use Rattle.cue_sheet.specs.Reading.{State, line_check, part, follows, with_start, file_reading, track_reading, index_reading, pregap_reading, rest_reading, words_reading, line_reading}
+use Rattle.cue_sheet.specs.Sheet.{IsTime, IsPlaced, IsSheet}
+use Rattle.cue_sheet.specs.Reading.{State, Sheet, RefusedLine, after_line, has_track, is_complete, lines_reading, nothing_read, sheet_end, sheet_reading, line_check, part, follows, with_start, file_reading, track_reading, index_reading, pregap_reading, rest_reading, words_reading, line_reading}
 use Rattle.cue_sheet.specs.Progress.{IsCounted, IsSound}
 
 -- ---- what stands behind checks
@@ -221,3 +223,65 @@ words_sound state text sound = behind_choice (length text == 0) _ _ sound (behin
 pub line_sound : (state next : State) (line : List ℕ) → IsSound state → line_reading state line ≡ Ok next → IsSound next
 unfolding line_reading
 line_sound state next line sound e = subst KeepsSound e (words_sound state _ sound)
+
+-- ---- the whole
+
+nothing_sound : IsSound nothing_read
+nothing_sound = record {
+  few_files = omega arith;
+  file_first = λ some. absurd (omega arith);
+  few = omega arith;
+  labelled = tt;
+  counted = inr (refl, refl);
+  placed = λ k d below. absurd (omega arith);
+  in_order = λ i j d low below. absurd (omega arith);
+  timed = omega arith;
+  pregap_timed = tt;
+}
+
+checked : {A : Type 0} (holds : Bool) (kind : CueKind) (next : Result A CueKind) (read : A) → line_check holds kind next ≡ Ok read → (holds ≡ true) × (next ≡ Ok read)
+unfolding line_check
+checked true kind next read e = (refl, e)
+checked false kind next read e = cc
+
+gap_timed : (gap : Option ℕ) → IfSome gap IsTime → IsTime (unwrap_or gap 0)
+gap_timed None timed = omega arith
+gap_timed (Some gap) timed = timed
+
+end_valid : (state : State) (sheet : Sheet) → IsSound state → sheet_end state ≡ Ok sheet → IsSheet sheet.files sheet.tracks sheet.pregap
+unfolding sheet_end
+end_valid state sheet sound e =
+    let first = checked (has_track state) NoTracks _ sheet e in
+    let second = checked (is_complete state) NoIndex01 _ sheet first.1 in
+    let same : record { files = state.files; tracks = state.tracks; pregap = unwrap_or state.pregap 0 } ≡ sheet = cc in
+    let some : 0 < state.number = (let test = first.0 in grind (arith, nat_tests)) in
+    let all : length state.tracks ≡ state.number = eqb-true _ _ second.0 in
+    subst (λ (s : Sheet). IsSheet s.files s.tracks s.pregap) same record {
+      some_files = sound.file_first some;
+      few_files = sound.few_files;
+      some_tracks = omega arith;
+      few_tracks = omega (arith, sound.few);
+      placed = sound.placed;
+      in_order = sound.in_order;
+      timed = gap_timed state.pregap sound.pregap_timed;
+    }
+
+ended : (read : Result Sheet CueKind) (sheet : Sheet) → after_line 0 read Ok ≡ Ok sheet → read ≡ Ok sheet
+ended (Ok found) sheet e = let same : found ≡ sheet = cc in ap Ok same
+ended (Err kind) sheet e = cc
+
+stepped : (line : ℕ) (read : Result State CueKind) (next : State → Result Sheet RefusedLine) (sheet : Sheet) → after_line line read next ≡ Ok sheet → (state : State) × (read ≡ Ok state) × (next state ≡ Ok sheet)
+stepped line (Ok state) next sheet e = (state, refl, e)
+stepped line (Err kind) next sheet e = cc
+
+lines_valid : (line : ℕ) (state : State) (lines : List (List ℕ)) (sheet : Sheet) → IsSound state → lines_reading line state lines ≡ Ok sheet → IsSheet sheet.files sheet.tracks sheet.pregap
+unfolding lines_reading
+lines_valid line state [] sheet sound e = end_valid state sheet sound (ended (sheet_end state) sheet e)
+lines_valid line state (first ∷ others) sheet sound e =
+    let step = stepped line (line_reading state first) (λ next. lines_reading (line + 1) next others) sheet e in
+    lines_valid (line + 1) step.0 others sheet (line_sound state step.0 first sound step.1) step.2
+
+-- what a text is read as is a sheet
+pub sheet_valid : (text : List ℕ) (sheet : Sheet) → sheet_reading text ≡ Ok sheet → IsSheet sheet.files sheet.tracks sheet.pregap
+unfolding sheet_reading
+sheet_valid text sheet e = lines_valid 1 nothing_read (lines_of (without_mark text)) sheet nothing_sound e

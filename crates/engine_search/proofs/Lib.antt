@@ -1,1 +1,3 @@
+pub mod AgreementLaws
 pub mod PickLaws
+pub mod SealingLaws

@@ -93,17 +93,17 @@ told_done None h text make same is = tt
 told_done (Some files) h text make same is = (answered Done (make files), refl, refl, sym is, same)
 
 module _ {A T : Type 0} (view : Files → T → A) (step : Files → Result A Status → Type 0) (next : Files → A → Outcome → Type 0) where
-  stopped_of_at : (files : Files) (e : Stop) → OnlyRefuses {T = T} (Err e) → Meets (view files) (Err e) (step files) → Leaves (ThenOf (step files) (next files)) files (Err e) (Some files)
-  stopped_of_at files (Refused status) only meets = (refl, (Err status, meets, refl))
-  stopped_of_at files (ReadStop call) only meets = absurd only
-  stopped_of_at files (WriteStop call) only meets = absurd only
-  stopped_of_at files WantStop only meets = inl refl
+  stopped_of_at : (files : Files) (before now : ShelfCall → ℕ) (e : Stop) → ReadsWithCause {T = T} before now (Err e) → Meets (view files) (Err e) (step files) → Leaves (ThenOf (step files) (next files)) files (Err e) (Some files)
+  stopped_of_at files before now (Refused status) cause meets = (refl, (Err status, meets, refl))
+  stopped_of_at files before now (ReadStop call) cause meets = inl refl
+  stopped_of_at files before now (WriteStop call) cause meets = absurd cause
+  stopped_of_at files before now WantStop cause meets = inl refl
 
   -- a step that is stated as a relation stopped the command
-  pub stopped_of : (h0 h1 : Option Files) (r : Result T Stop) (e : Stop) (result : Result Answer Stop) → r ≡ Err e → result ≡ Err e → h1 ≡ h0
-      → OnlyRefuses r → IfSome h0 (λ files. Meets (view files) r (step files)) → IfSome h0 (λ files. Leaves (ThenOf (step files) (next files)) files result h1)
-  stopped_of None h1 r e result is out_is same only meets = tt
-  stopped_of (Some files) h1 r e result is out_is same only meets = rw (out_is, same) (stopped_of_at files e (rw is at only) (rw is at meets))
+  pub stopped_of : (before now : ShelfCall → ℕ) (h0 h1 : Option Files) (r : Result T Stop) (e : Stop) (result : Result Answer Stop) → r ≡ Err e → result ≡ Err e → h1 ≡ h0
+      → ReadsWithCause before now r → IfSome h0 (λ files. Meets (view files) r (step files)) → IfSome h0 (λ files. Leaves (ThenOf (step files) (next files)) files result h1)
+  stopped_of before now None h1 r e result is out_is same cause meets = tt
+  stopped_of before now (Some files) h1 r e result is out_is same cause meets = rw (out_is, same) (stopped_of_at files before now e (rw is at cause) (rw is at meets))
 
   -- and here it found something, and the command went on
   pub went_on_of : (h0 h : Option Files) (r : Result T Stop) (found : T) (result : Result Answer Stop) → r ≡ Ok found

@@ -1,5 +1,5 @@
 -- The bytes that a command takes, call by call.
-use Rattle.std.proofs.Common.{◌≡◌, ◌∙◌, ◌+◌, ◌*◌, ◌≤◌, ◌++◌, ℕ, List, [], ◌∷◌, length, Option, None, Some, IfSome, Result, Ok, Err, arith, refl, ap, subst, zero-add}
+use Rattle.std.proofs.Common.{◌≡◌, ◌∙◌, ◌+◌, ◌*◌, ◌≤◌, ◌++◌, ℕ, List, [], ◌∷◌, length, Option, None, Some, IfSome, Result, Ok, Err, arith, refl, sym, ap, subst, zero-add}
 use Rattle.std.specs.Option.{option_to_list}
 use Rattle.rip_outside.specs.Files.{Files, bytes_at}
 use Rattle.rip_outside.proofs.FilesLaws.{when_told}
@@ -22,7 +22,7 @@ takes_after a b c t0 t1 t2 (Err (ReadStop call)) so_far fits takes = tt
 takes_after a b c t0 t1 t2 (Err (WriteStop call)) so_far fits takes = omega arith
 takes_after a b c t0 t1 t2 (Err WantStop) so_far fits takes = omega arith
 
-takes_within : {T : Type 0} (most t0 t1 : ℕ) (r : Result T Stop) → t1 ≤ t0 + most → Takes most r t0 t1
+pub takes_within : {T : Type 0} (most t0 t1 : ℕ) (r : Result T Stop) → t1 ≤ t0 + most → Takes most r t0 t1
 takes_within most t0 t1 (Ok found) low = low
 takes_within most t0 t1 (Err (Refused status)) low = low
 takes_within most t0 t1 (Err (ReadStop call)) low = tt
@@ -47,7 +47,7 @@ SoFar held most t0 t1 = (files : Files) → held ≡ Some files → t1 ≤ t0 + 
 pub none_so_far : (held : Option Files) (t : ℕ) → SoFar held (λ _. 0) t t
 none_so_far held t files told = omega arith
 
-found_at : {T : Type 0} (most t0 t1 : ℕ) (r : Result T Stop) (found : T) → r ≡ Ok found → Takes most r t0 t1 → t1 ≤ t0 + most
+pub found_at : {T : Type 0} (most t0 t1 : ℕ) (r : Result T Stop) (found : T) → r ≡ Ok found → Takes most r t0 t1 → t1 ≤ t0 + most
 found_at most t0 t1 r found is takes = rw is at takes
 
 -- one more call that went well
@@ -127,6 +127,13 @@ pub compared_room : (input rec : List ℕ) (files : Files) (known : Known) (name
 compared_room input rec files known names is =
     let from = compared_sectors input rec files known names is in
     subst (λ s. 2352 * s ≤ lengths_of (names_read input files) files) from.2 (measured_room input files from.0 from.1)
+
+-- the rip has the words of its sectors
+pub compared_length : (input rec : List ℕ) (files : Files) (known : Known) (names : List (List ℕ)) → compared input rec files ≡ Ok (known, names) → length known.words ≡ 1176 * known.sectors
+compared_length input rec files known names is =
+    let from = compared_sectors input rec files known names is in
+    let long = opened_length input files from.0 (measured_read input files from.0 from.1) in
+    ap length (sym from.3) ∙ long ∙ ap (λ s. 1176 * s) from.2
 
 -- what a step found, where the files are told
 pub found_told : {A T : Type 0} (held : Option Files) (view : Files → T → A) (step : Files → Result A Status) (r : Result T Stop) (found : T) → r ≡ Ok found

@@ -11,7 +11,7 @@ use Rattle.rip_inputs.specs.Opening.{Opened, names_read}
 use Rattle.rip_report.specs.declared.status.Status.{Status}
 
 abbrev pub known_of : Files → Compared → Known
-known_of files found = known_from found.shape (joined_words found.image files) (parity_count found.parity) (parity_rows found.parity)
+known_of files found = known_from found.shape (joined_words found.image files) (parity_count found.parity) (parity_rows found.parity) found.seal
 
 -- and the names that were read
 abbrev pub names_of : Compared → List (List ℕ)

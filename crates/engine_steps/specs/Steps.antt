@@ -80,20 +80,22 @@ none_differs (Some differs) = Err (OtherLayout differs)
 abbrev pub same_layout : Toc → Toc → Result (Unit {0}) Status
 same_layout rip kept = none_differs (difference_of rip kept)
 
--- what is known of a rip and a record of its disc: the sectors, the rip's words, and the stored parity of `count` words for each column
+-- what is known of a rip and a record of its disc: the sectors, the rip's words, the stored parity of `count` words for each column, and
+-- the seal of the disc, if the record has one
 pub record Known : Type 0 where
   pub sectors : ℕ
   pub words : List ℕ
   pub count : ℕ
   pub stored : List (List ℕ)
+  pub seal : Option (List ℕ)
 
 -- by its parts
-abbrev pub known_from : ℕ → List ℕ → ℕ → List (List ℕ) → Known
-known_from sectors words count stored = record { sectors = sectors; words = words; count = count; stored = stored }
+abbrev pub known_from : ℕ → List ℕ → ℕ → List (List ℕ) → Option (List ℕ) → Known
+known_from sectors words count stored seal = record { sectors = sectors; words = words; count = count; stored = stored; seal = seal }
 
 -- of a rip that was opened and a record that was read
 abbrev pub known_by : Opened → Stored → Known
-known_by rip stored = known_from rip.toc.sectors rip.words stored.count stored.rows
+known_by rip stored = known_from rip.toc.sectors rip.words stored.count stored.rows stored.seal
 
 -- what is known of the rip and the record, which are of one layout, and the names that are read
 abbrev pub compared : List ℕ → List ℕ → Files → Result (Known × List (List ℕ)) Status

@@ -3,11 +3,13 @@
 
 mod buffers;
 mod comparing;
+mod replacing;
 mod steps;
 
 pub use buffers::{PIECE, zero_bytes, zero_words};
 pub use comparing::{Compared, compare};
+pub use replacing::replace_out;
 pub use steps::{
-    Answer, Stop, check_free, check_layout, find_record, is_among, is_read, open_input,
-    open_measured, part_name, write_out,
+    Answer, Stop, check_free, check_layout, find_record, is_among, is_read, mend_stop, open_input,
+    open_measured, part_name, put_stop, write_out,
 };

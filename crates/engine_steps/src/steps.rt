@@ -15,12 +15,13 @@ ghost use Rattle.image_mender.specs.declared.image.Part.{Part};
 ghost use Rattle.parity_store.specs.Reading.{stored_of};
 ghost use Rattle.rip_inputs.specs.Opening.{lengths_of, names_read};
 ghost use Rattle.rip_inputs.specs.Telling.{opened_of};
-ghost use Rattle.engine_steps.specs.Steps.{opened, measured, recorded, rip_stop, same_layout, freed, stop_of, Does, OnlyRefuses, EndsWithCause, ReadsWithCause, Takes};
+ghost use Rattle.engine_steps.specs.Steps.{opened, measured, mend_stop, recorded, rip_stop, same_layout, freed, stop_of, Does, OnlyRefuses, EndsWithCause, ReadsWithCause, Takes};
 ghost use Rattle.engine_steps.specs.Outcome.{Leaves, output, written};
 ghost use Rattle.engine_steps.specs.Crashing.{CrashSafe};
 
 use column_map::Shape;
 use disc_toc::{Layout, LayoutKind, first_difference};
+use image_mender::MendFail;
 use parity_store::{FindFail, PutFail, Record, find, put};
 use rip_inputs::{Rip, RipFail, open_rip};
 use rip_outside::{Name, Oom, Shelf, ShelfCall, Text};
@@ -216,12 +217,24 @@ pub fn check_free<S: Shelf>(
     Ok(())
 }
 
-fn put_stop(fail: PutFail) -> Stop
+/// A put's failure, as a stop of the command.
+pub fn put_stop(fail: PutFail) -> Stop
     ensures { result ≡ stop_of fail }
 {
     match fail {
         PutFail::WriteFault { call } => Stop::WriteFault { call },
         PutFail::Oom => Stop::Oom,
+    }
+}
+
+/// A mending's failure, as a stop of the command.
+pub fn mend_stop(fail: MendFail) -> Stop
+    ensures { result ≡ mend_stop fail }
+{
+    match fail {
+        MendFail::ReadFault { call } => Stop::ReadFault { call },
+        MendFail::WriteFault { call } => Stop::WriteFault { call },
+        MendFail::Oom => Stop::Oom,
     }
 }
 

@@ -63,7 +63,7 @@ fn no_sheet_is_read(rt: HostRuntime) -> Result<(), Fail> {
 }
 
 // Where bytes of a record are put, which ones, after how many the file ends, and why it is refused.
-const RECORDS: [(usize, &[u8], usize, RecordKind); 8] = [
+const RECORDS: [(usize, &[u8], usize, RecordKind); 9] = [
     (0, b"", 7, RecordKind::Mark),
     (
         0,
@@ -75,6 +75,7 @@ const RECORDS: [(usize, &[u8], usize, RecordKind); 8] = [
         },
     ),
     (8, b"\x05", LENGTH, RecordKind::Npar { found: 5 }),
+    (8, b"\x20", LENGTH, RecordKind::Npar { found: 32 }),
     (10, b"\0", LENGTH, RecordKind::Tracks { found: 0 }),
     (10, b"\x64", LENGTH, RecordKind::Tracks { found: 100 }),
     (11, b"\x07", LENGTH, RecordKind::Spare { found: 7 }),
@@ -82,7 +83,7 @@ const RECORDS: [(usize, &[u8], usize, RecordKind); 8] = [
     (16, b"\xff\xff\xff\xff", LENGTH, RecordKind::Layout),
 ];
 
-// The length of a record of one track with eight parity words for each column.
+// The length of a record of one track with eight parity words for each column and no seal.
 const LENGTH: usize = 188_216;
 
 // The record of 100 sectors of zeros with other bytes at a place, cut after so many.
@@ -90,6 +91,7 @@ fn changed(alloc: Global, at: usize, with: &[u8], end: usize) -> Result<Vec<u8>,
     let record = Record {
         layout: one_track(alloc, 117_600)?,
         parity: Parity::Eight(Table::zero(alloc)?),
+        seal: None,
     };
     let mut bytes = record_bytes(alloc, &record)?;
     for (place, byte) in bytes.iter_mut().skip(at).zip(with) {
@@ -104,7 +106,7 @@ fn no_record_is_read(rt: HostRuntime) -> Result<(), Fail> {
     let alloc = rt.alloc();
     for (at, with, end, kind) in RECORDS {
         let bytes = changed(alloc, at, with, end)?;
-        assert!(rt; bytes.len() <= 400_000);
+        assert!(rt; bytes.len() <= 800_000);
         let refused = read_record(alloc, &bytes, bytes.len() as u64).err();
         assert_eq!(rt; refused, Some(RecordFail::Refused { kind }));
     }

@@ -20,11 +20,12 @@ pub fn number_of<S: Shelf>(alloc: Global, files: &mut S, line: &str) -> Result<u
 // The bytes of the rip and of the record that are read.
 const RIP: u128 = 235_244;
 
-const RECORD: u128 = 188_216;
+const RECORD: u128 = 188_248;
 
-// The words of a rip are read twice, of two bytes each. A trial takes none of the files.
+// The words of a rip are read three times, of two bytes each: for the search, for the seal, and to be written. A trial
+// takes none of the files.
 #[test]
-fn a_rip_that_is_mended_is_read_twice(rt: HostRuntime) -> Result<(), Fail> {
+fn a_rip_that_is_mended_is_read_three_times(rt: HostRuntime) -> Result<(), Fail> {
     let alloc = rt.alloc();
     let mut files = MemoryShelf::new(alloc);
     fill(&mut files, "disc.wav", &wav(alloc, &late(alloc, 0)?)?)?;
@@ -34,7 +35,7 @@ fn a_rip_that_is_mended_is_read_twice(rt: HostRuntime) -> Result<(), Fail> {
     assert!(rt; number_of(alloc, &mut files, "repair in.wav r.rpar out.wav")? == 0);
     let after = files.taken_so_far();
     let taken = after.saturating_sub(before);
-    assert!(rt; taken >= 470_400 && taken <= 3 * (RIP + RECORD));
+    assert!(rt; taken >= 705_600 && taken <= 3 * (RIP + RECORD));
     assert!(rt; number_of(alloc, &mut files, "trial 100 7 -17 4")? == 0);
     assert!(rt; files.taken_so_far() == after);
     Ok(())

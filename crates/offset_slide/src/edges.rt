@@ -84,7 +84,7 @@ impl Edges {
         self.position += words.len();
     }
 
-    // The shape of the image.
+    /// The shape of the image.
     pub fn shape(&self) -> Shape
         ensures value { result ≡ self.now.sectors }
         ensures range { IsSectorCount self.now.sectors }
@@ -92,7 +92,7 @@ impl Edges {
         self.shape
     }
 
-    // Word `i` of the first two strides.
+    /// Word `i` of the first two strides.
     pub fn front(&self, i: usize) -> u16
         requires { i < 2 * stride }
         ensures { result ≡ slice_index self.now.front i }
@@ -100,7 +100,7 @@ impl Edges {
         self.front[i]
     }
 
-    // Word `i` of the last two.
+    /// Word `i` of the last two.
     pub fn back(&self, i: usize) -> u16
         requires { i < 2 * stride }
         ensures { result ≡ slice_index self.now.back i }

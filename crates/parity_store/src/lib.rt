@@ -22,5 +22,5 @@ pub use storing::{PutFail, put, replace};
 /// The law of a record's bytes: bytes are read as a record exactly where they are that record's own bytes and it may be
 /// stored. So what was written is read again, and no other bytes are read as that record.
 pub fn laws()
-    ensures one_spelling { (bytes : List ℕ) (stored : Stored) → AreBytes bytes → (record_reading bytes ≡ Ok stored) ↔ ((bytes ≡ record_bytes_of stored.toc stored.count stored.rows) × IsStorable stored) }
+    ensures one_spelling { (bytes : List ℕ) (stored : Stored) → AreBytes bytes → (record_reading bytes ≡ Ok stored) ↔ ((bytes ≡ record_bytes_of stored.toc stored.count stored.rows stored.seal) × IsStorable stored) }
 {}

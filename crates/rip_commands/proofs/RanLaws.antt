@@ -1,6 +1,6 @@
 -- What is told of a command, from what its steps came to.
-use Rattle.std.specs.Prelude.{◌*◌, Result, Ok, Err, IsOk}
-use Rattle.std.proofs.Common.{◌≡◌, ◌≢◌, ◌⊎◌, ℕ, List, [], ◌∷◌, Option, Some, IfSome, Result, Ok, Err, refl, sym, ◌∙◌, arith, inl, inr, ap, subst, None}
+use Rattle.std.specs.Prelude.{Result, Ok, Err, IsOk}
+use Rattle.std.proofs.Common.{◌≡◌, ◌≢◌, ◌⊎◌, ℕ, List, [], ◌∷◌, Option, Some, IfSome, Result, Ok, Err, refl, sym, ◌∙◌, arith, inl, inr, ap, subst, None, ℤ}
 use Rattle.rip_outside.specs.Files.{Files}
 use Rattle.rip_outside.specs.Outputs.{Output, after_outputs}
 use Rattle.rip_outside.specs.Causes.{NoneFell}
@@ -8,9 +8,12 @@ use Rattle.rip_commands.specs.Look.{Look}
 use Rattle.rip_outside.proofs.FilesLaws.{if_told}
 use Rattle.rip_outside.specs.declared.fault.ShelfCall.{ShelfCall}
 use Rattle.rip_outside.specs.declared.fault.ShelfCall.TheVariants.{Rename}
-use Rattle.engine_steps.specs.Steps.{EndsWithCause, Takes, IsStepRefusal}
+use Rattle.engine_steps.specs.Steps.{EndsWithCause, Takes, IsStepRefusal, compared}
 use Rattle.engine_steps.specs.Outcome.{Outcome, Partly, refused, Leaves}
-use Rattle.rip_commands.specs.Outcomes.{IsOutcomeOf, IsMostTaken}
+use Rattle.rip_commands.specs.Outcomes.{IsOutcomeOf, IsMostCompared, IsMostTaken}
+use Rattle.rip_inputs.specs.Opening.{lengths_of}
+use Rattle.engine_steps.specs.Comparing.{compared_names}
+use Rattle.engine_search.specs.Agreement.{TakesCompared}
 use Rattle.std.specs.FinMap.{empty}
 use Rattle.rip_commands.specs.Ran.{Comes, FaultsOfCommand, IsTrialRead, NeedsNoFile, Ran, TellsOf, ToldWithoutFiles, telling, wanting}
 use Rattle.engine_steps.proofs.Leaving.{stands_some}
@@ -37,6 +40,13 @@ pub takes_most : (h : Option Files) (most : Files → ℕ) (r : Result Answer St
     → IfSome h (λ files. (m : ℕ) → m ≡ most files → Takes m r before now)
 takes_most None most r before now took = tt
 takes_most (Some files) most r before now took = λ m is. rw is took
+
+-- the same of a command on a rip and a record
+pub takes_most_compared : (h : Option Files) (input rec : List ℕ) (given : Option ℤ) (r : Result Answer Stop) (before now : ℕ)
+    → IfSome h (λ files. TakesCompared (compared input rec files) given 3 (lengths_of (compared_names input rec files) files) r before now)
+    → IfSome h (λ files. (m : ℕ) → IsMostCompared input rec given files m → Takes m r before now)
+takes_most_compared None input rec given r before now took = tt
+takes_most_compared (Some files) input rec given r before now took = λ m is. rw is.2 (took is.0 is.1)
 
 -- a command that calls no shelf takes nothing
 pub takes_nothing : (most : ℕ) (r : Result Answer Stop) (taken : ℕ) → Takes most r taken taken

@@ -18,11 +18,15 @@ ghost use Rattle.engine_steps.specs.Crashing.{CrashSafe};
 ghost use Rattle.rip_report.specs.declared.status.Status.{Status};
 ghost use Rattle.rip_commands.specs.Ran.{Comes, FaultsOfCommand, IsTrialRead, NeedsNoFile, Ran, TellsOf, ToldWithoutFiles, wanting, telling};
 
+use cmd_join::join;
+use cmd_match::match_sums;
 use cmd_offsets::offsets;
 use cmd_register::register;
 use cmd_repair::repair;
+use cmd_split::split;
 use cmd_sums::sums;
 use cmd_trial::trial;
+use cmd_upgrade::upgrade;
 use cmd_verify::verify;
 use engine_steps::{Answer, Stop};
 use rip_outside::{Shelf, Text};
@@ -64,7 +68,13 @@ fn perform<S: Shelf>(alloc: Global, command: Command, shelf: &mut S) -> Result<A
             to.as_str(),
             offset,
         ),
+        Command::Upgrade { input, rec } => upgrade(alloc, shelf, input.as_str(), rec.as_str()),
+        Command::MatchSums { input, resp } => {
+            match_sums(alloc, shelf, input.as_str(), resp.as_str())
+        }
         Command::Sums { input } => sums(alloc, shelf, input.as_str()),
+        Command::Split { input, folder } => split(alloc, shelf, input.as_str(), folder.as_str()),
+        Command::Join { input, to } => join(alloc, shelf, input.as_str(), to.as_str()),
         Command::Trial {
             sectors,
             seed,

@@ -1,3 +1,4 @@
 pub mod Ending
 pub mod Headline
 pub mod StoredLaws
+pub mod AgainLaws

@@ -1,21 +1,11 @@
--- Numerals with zeros before them, texts of several parts, and the lines of tracks.
+-- Texts of several parts, and the lines of tracks.
 use Rattle.std.proofs.Common.{◌≡◌, ℕ, suc, ◌+◌, ◌-◌, ◌^◌, ◌<◌, false, List, [], ◌∷◌, ◌++◌, length, take, get_or, ap, sym, ◌∙◌, arith, append_assoc, append-nil, Option, Some, IfSome}
 use Rattle.std.specs.Fmt.{◌++?◌, char_count, digits, format_spec, padded_integral}
 use Rattle.std.specs.Option.{option_map}
 use Rattle.std.proofs.Math.Nat.{sub-zero}
 use Rattle.std.proofs.lemmas.List.{take_more, length-take}
 use Rattle.accurip_sums.specs.declared.pair.Sums.{Sums}
-use Rattle.rip_report.specs.Sums.{eight_hex, track_line, track_lines, with_zeros}
-
--- what `{:02}` and its kin write
-pub zeros_before : (count : ℕ) (numeral : List ℕ) → padded_integral (format_spec 32 0 4 count (2 ^ 64 - 1)) false [] numeral ≡ with_zeros count numeral
-unfolding padded_integral char_count with_zeros
-zeros_before count numeral = simp (sub-zero, append-nil)
-
--- what `{:08x}` writes
-pub hex_shown : (shown : Option (List ℕ)) (n : ℕ) → shown ≡ Some (digits 16 false n)
-    → option_map (padded_integral (format_spec 32 0 4 8 (2 ^ 64 - 1)) false []) shown ≡ Some (eight_hex n)
-hex_shown shown n is = ap (option_map (padded_integral (format_spec 32 0 4 8 (2 ^ 64 - 1)) false [])) is ∙ ap Some (zeros_before 8 (digits 16 false n))
+use Rattle.rip_report.specs.Sums.{track_line, track_lines}
 
 -- a text of parts that are known
 pub two_shown : (made a b c d e w x y : List ℕ) (p q : Option (List ℕ)) → b ≡ w → p ≡ Some x → q ≡ Some y
@@ -23,10 +13,9 @@ pub two_shown : (made a b c d e w x y : List ℕ) (p q : Option (List ℕ)) → 
     → made ≡ a ++ w ++ c ++ x ++ d ++ y ++ e
 two_shown made a b c d e w x y p q number one two is = (rw (number, one, two) at is) ∙ simp append_assoc
 
-pub three_shown : (made a b c d e f w x y z : List ℕ) (p q r : Option (List ℕ)) → b ≡ w → p ≡ Some x → q ≡ Some y → r ≡ Some z
-    → IfSome (Some a ++? Some b ++? Some c ++? p ++? Some d ++? q ++? Some e ++? r ++? Some f) (λ text. made ≡ text)
-    → made ≡ a ++ w ++ c ++ x ++ d ++ y ++ e ++ z ++ f
-three_shown made a b c d e f w x y z p q r number one two three is = (rw (number, one, two, three) at is) ∙ simp append_assoc
+pub one_shown : (made a b c d w x : List ℕ) (p : Option (List ℕ)) → b ≡ w → p ≡ Some x
+    → IfSome (Some a ++? Some b ++? Some c ++? p ++? Some d) (λ text. made ≡ text) → made ≡ a ++ w ++ c ++ x ++ d
+one_shown made a b c d w x p name one is = (rw (name, one) at is) ∙ simp append_assoc
 
 -- one more track
 track_lines-append : (n : ℕ) (list : List Sums) (sums : Sums) → track_lines n (list ++ sums ∷ []) ≡ track_lines n list ++ track_line (n + length list) sums

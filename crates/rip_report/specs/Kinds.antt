@@ -11,6 +11,8 @@ use Rattle.disc_toc.specs.declared.difference.LayoutPart.{LayoutPart}
 use Rattle.disc_toc.specs.declared.difference.LayoutPart.TheVariants.{Pregap, Sectors, Tracks as TrackNumber, Start}
 use Rattle.parity_store.specs.declared.reading.RecordKind.{RecordKind}
 use Rattle.parity_store.specs.declared.reading.RecordKind.TheVariants.{Mark, Length, Npar, Tracks, Spare, Layout, Digest}
+use Rattle.rip_report.specs.declared.status.ResponseKind.{ResponseKind}
+use Rattle.rip_report.specs.declared.status.ResponseKind.TheVariants.{TooLong as TooLongResponse, Cut}
 
 -- why a line of a cue sheet, or the sheet, is refused
 abbrev pub cue_kind_text : CueKind → List ℕ
@@ -64,6 +66,11 @@ record_kind_text (Tracks found) = codes "Tracks " ++ decimal found
 record_kind_text (Spare found) = codes "Spare " ++ decimal found
 record_kind_text Layout = codes "Layout"
 record_kind_text Digest = codes "Digest"
+
+-- why a file is no response
+abbrev pub response_kind_text : ResponseKind → List ℕ
+response_kind_text TooLongResponse = codes "TooLong"
+response_kind_text (Cut at) = codes "Cut at " ++ decimal at
 
 -- in which part two layouts differ
 abbrev pub layout_part_text : LayoutPart → List ℕ

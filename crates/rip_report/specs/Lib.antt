@@ -1,4 +1,5 @@
 pub mod Kinds
+pub mod Matches
 pub mod Report
 pub mod Sums
 pub mod Texts

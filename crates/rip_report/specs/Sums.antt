@@ -1,20 +1,13 @@
 -- What `sums` prints of a disc.
-use Rattle.std.specs.Prelude.{ℕ, ◌+◌, ◌-◌, false, List, [], ◌∷◌, ◌++◌, codes, length, replicate}
-use Rattle.std.specs.Fmt.{decimal, digits}
+use Rattle.std.specs.Prelude.{ℕ, ◌+◌, List, [], ◌∷◌, ◌++◌, codes, length}
+use Rattle.std.specs.Fmt.{decimal}
+use Rattle.accurip_match.specs.Name.{eight_hex, with_zeros}
 use Rattle.accurip_sums.specs.declared.pair.Sums.{Sums}
 use Rattle.disc_toc.specs.Toc.{Toc}
 use Rattle.disc_ids.specs.Digest.{id_of}
 use Rattle.disc_ids.specs.Numbers.{accurip_id_one, accurip_id_two, freedb_number}
 use Rattle.disc_ids.specs.Texts.{musicbrainz_text, store_key_text}
 use Rattle.rip_report.specs.Texts.{line}
-
--- a numeral with the digit 0 before it, up to so many digits
-unfoldable pub with_zeros : ℕ → List ℕ → List ℕ
-with_zeros count numeral = replicate (count - length numeral) 48 ++ numeral
-
--- a number in eight hexadecimal digits, with lower-case letters
-abbrev pub eight_hex : ℕ → List ℕ
-eight_hex n = with_zeros 8 (digits 16 false n)
 
 -- a disc's tracks in three digits, its two ids at AccurateRip and that at FreeDB
 unfoldable pub disc_line : Toc → List ℕ

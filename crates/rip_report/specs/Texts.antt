@@ -1,11 +1,11 @@
 -- The printed texts, and the exit numbers.
 use Rattle.std.specs.Prelude.{ℕ, suc, List, [], ◌∷◌, ◌++◌, codes, flat_map, ℤ, pos, negsuc}
 use Rattle.std.specs.Fmt.{decimal}
-use Rattle.rip_report.specs.Kinds.{cue_kind_text, layout_kind_text, layout_part_text, record_kind_text, wav_kind_text}
+use Rattle.rip_report.specs.Kinds.{cue_kind_text, layout_kind_text, layout_part_text, record_kind_text, response_kind_text, wav_kind_text}
 use Rattle.disc_toc.specs.declared.difference.LayoutPart.{LayoutPart}
 use Rattle.column_map.specs.declared.candidate.Candidate.{Candidate}
 use Rattle.rip_report.specs.declared.status.Status.{Status}
-use Rattle.rip_report.specs.declared.status.Status.TheVariants.{Done, Usage, Missing, CueRefused, WavRefused, LayoutRefused, NoRecord, RecordRefused, OutExists, OtherLayout, NoCandidate, Several, NotNear, Mendable, ReadFault, WriteFault, SinkFault, WantOfMemory}
+use Rattle.rip_report.specs.declared.status.Status.TheVariants.{Done, Usage, Missing, CueRefused, WavRefused, LayoutRefused, NoRecord, RecordRefused, OutExists, OtherLayout, Sealed, NoCandidate, Several, NotNear, Mendable, SealDiffers, NoResponse, ResponseRefused, ReadFault, WriteFault, SinkFault, WantOfMemory}
 
 -- each line ends with a line feed
 abbrev pub line : List ℕ → List ℕ
@@ -53,10 +53,14 @@ refusal_line (NoRecord name) = line (codes "no record " ++ name)
 refusal_line (RecordRefused kind) = line (codes "record " ++ record_kind_text kind)
 refusal_line (OutExists name) = line (codes "exists " ++ name)
 refusal_line (OtherLayout differs) = other_layout_line differs.part differs.rip differs.kept
+refusal_line (Sealed name) = line (codes "sealed " ++ name)
 refusal_line NoCandidate = line (codes "no candidate")
 refusal_line (Several first second) = several_line first second
 refusal_line (NotNear column) = line (codes "not near column " ++ decimal column)
 refusal_line (Mendable offset errors columns) = candidate_line offset errors columns ++ line (codes "mendable")
+refusal_line SealDiffers = line (codes "seal differs")
+refusal_line (NoResponse name) = line (codes "no response " ++ name)
+refusal_line (ResponseRefused kind) = line (codes "response " ++ response_kind_text kind)
 refusal_line (ReadFault call) = read_fault_line
 refusal_line (WriteFault call) = write_fault_line
 refusal_line Done = []
@@ -87,6 +91,18 @@ offsets_text found = flat_map line_of found
 abbrev pub written_text : Candidate → List ℕ → List ℕ
 written_text at name = line_of at ++ line (codes "written " ++ name)
 
+-- what `upgrade` prints
+abbrev pub upgraded_text : Candidate → List ℕ → List ℕ
+upgraded_text at name = line_of at ++ line (codes "upgraded " ++ name)
+
+-- what `split` prints: the folder, and how many tracks stand in it
+abbrev pub split_line : List ℕ → ℕ → List ℕ
+split_line folder tracks = line (codes "split " ++ folder ++ codes " tracks " ++ decimal tracks)
+
+-- what `join` prints: the file's name and its sectors
+abbrev pub joined_line : List ℕ → ℕ → List ℕ
+joined_line name sectors = line (codes "joined " ++ name ++ codes " sectors " ++ decimal sectors)
+
 -- the number with which the program ends
 abbrev pub exit_number : Status → ℕ
 exit_number Done = 0
@@ -99,10 +115,14 @@ exit_number (NoRecord name) = 15
 exit_number (RecordRefused kind) = 16
 exit_number (OutExists name) = 17
 exit_number (OtherLayout differs) = 18
+exit_number (Sealed name) = 19
 exit_number NoCandidate = 20
 exit_number (Several first second) = 21
 exit_number (NotNear column) = 22
 exit_number (Mendable offset errors columns) = 23
+exit_number SealDiffers = 24
+exit_number (NoResponse name) = 25
+exit_number (ResponseRefused kind) = 26
 exit_number (ReadFault call) = 30
 exit_number (WriteFault call) = 31
 exit_number SinkFault = 32

@@ -2,6 +2,7 @@
 #![tactic(auto)]
 
 mod kinds;
+mod matches;
 mod refusals;
 mod report;
 mod status;
@@ -11,4 +12,4 @@ mod trial;
 
 pub use refusals::refusal_text;
 pub use report::{Report, TrialResult, text_of};
-pub use status::Status;
+pub use status::{ResponseKind, Status};

@@ -4,7 +4,7 @@ ghost use Rattle.std.specs.String.{string_bytes};
 ghost use Rattle.rip_report.specs.Texts.{cue_line, other_layout_line, refusal_line, wav_line};
 
 use crate::kinds::{cue_kind_name, wav_kind_name};
-use crate::status::Status;
+use crate::status::{ResponseKind, Status};
 use crate::texts::{mendable_lines, printed, several_line};
 use column_map::Candidate;
 use disc_toc::{Differs, LayoutKind, LayoutPart};
@@ -58,6 +58,15 @@ fn record_line(alloc: Global, kind: RecordKind) -> Result<String, AllocError>
     }
 }
 
+fn response_line(alloc: Global, kind: ResponseKind) -> Result<String, AllocError>
+    ensures { IfOk result (λ made. string_bytes made ≡ refusal_line (Status.ResponseRefused kind)) }
+{
+    match kind {
+        ResponseKind::TooLong => String::from_str(alloc, "response TooLong\n"),
+        ResponseKind::Cut { at } => format!(in alloc; "response Cut at {at}\n"),
+    }
+}
+
 fn other_layout_line(alloc: Global, differs: Differs) -> Result<String, AllocError>
     ensures { IfOk result (λ made. string_bytes made ≡ other_layout_line differs.part differs.rip differs.kept) }
 {
@@ -97,6 +106,10 @@ pub(crate) fn refusal_lines(alloc: Global, status: &Status) -> Result<String, Al
             format!(in alloc; "exists {name}\n")
         }
         Status::OtherLayout { differs } => other_layout_line(alloc, *differs),
+        Status::Sealed { name } => {
+            let name = name.as_str();
+            format!(in alloc; "sealed {name}\n")
+        }
         Status::NoCandidate => String::from_str(alloc, "no candidate\n"),
         Status::Several { first, second } => several_line(alloc, *first, *second),
         Status::NotNear { column } => format!(in alloc; "not near column {column}\n"),
@@ -112,6 +125,12 @@ pub(crate) fn refusal_lines(alloc: Global, status: &Status) -> Result<String, Al
                 columns: *columns,
             },
         ),
+        Status::SealDiffers => String::from_str(alloc, "seal differs\n"),
+        Status::NoResponse { name } => {
+            let name = name.as_str();
+            format!(in alloc; "no response {name}\n")
+        }
+        Status::ResponseRefused { kind } => response_line(alloc, *kind),
         Status::ReadFault { call: _ } => String::from_str(alloc, "read fault\n"),
         Status::WriteFault { call: _ } => String::from_str(alloc, "write fault\n"),
         Status::Done | Status::SinkFault | Status::WantOfMemory => String::from_str(alloc, ""),

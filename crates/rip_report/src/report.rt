@@ -2,13 +2,16 @@
 ghost use Rattle.std.specs.Prelude.{◌≡◌, IfOk};
 ghost use Rattle.rip_report.specs.Report.{IsReported, report_text};
 
+use crate::matches::matches_lines;
 use crate::refusals::refusal_lines;
 use crate::status::Status;
 use crate::sums::sums_lines;
 use crate::texts::{
-    mendable_lines, offsets_lines, printed, registered_line, verified_lines, written_lines,
+    joined_line, mendable_lines, named_lines, offsets_lines, printed, registered_line, split_line,
+    verified_lines,
 };
 use crate::trial::trial_lines;
+use accurip_match::Matches;
 use accurip_sums::SumList;
 use column_map::{Candidate, CandidateList};
 use disc_toc::Layout;
@@ -20,9 +23,9 @@ use std::alloc::Global;
 pub enum TrialResult {
     /// It was mended here, and its words are the disc's, or not.
     Mended { at: Candidate, same: bool },
-    /// It isn't near the record at any offset.
+    /// It agrees with the record at no offset.
     NoneNear,
-    /// It is near the record at these two offsets, and perhaps at later ones.
+    /// It agrees with the record at these two offsets, and perhaps at later ones.
     Several { first: i32, second: i32 },
 }
 
@@ -53,10 +56,29 @@ pub enum Report {
         at: Candidate,
         name: Name,
     },
+    /// The record of this name got the rip's seal.
+    Upgraded {
+        at: Candidate,
+        name: Name,
+    },
+    /// The rip's tracks stand in this folder, so many of them, with their sheet.
+    SplitInto {
+        folder: Name,
+        tracks: u32,
+    },
+    /// The rip stands under this name as one file of so many sectors, with its sheet.
+    Joined {
+        name: Name,
+        sectors: u32,
+    },
     /// The ids of the disc with this layout, and the sums of its tracks, one pair for each.
     SumsOf {
         layout: Layout,
         sums: SumList,
+    },
+    /// The matches of a rip with a response.
+    Matched {
+        list: Matches,
     },
     /// A trial with an image of so many sectors, made from this seed, whose rip is late by so many samples and has so
     /// many wrong words, and what it came to.
@@ -87,8 +109,12 @@ pub fn text_of(alloc: Global, report: &Report) -> Result<Text, Oom>
         Report::Verified { at } => verified_lines(alloc, *at),
         Report::Mendable { at } => mendable_lines(alloc, *at),
         Report::Offsets { list } => offsets_lines(alloc, list.as_slice()),
-        Report::Written { at, name } => written_lines(alloc, *at, name.as_str()),
+        Report::Written { at, name } => named_lines(alloc, *at, "written", name.as_str()),
+        Report::Upgraded { at, name } => named_lines(alloc, *at, "upgraded", name.as_str()),
+        Report::SplitInto { folder, tracks } => split_line(alloc, folder.as_str(), *tracks),
+        Report::Joined { name, sectors } => joined_line(alloc, name.as_str(), *sectors),
         Report::SumsOf { layout, sums } => sums_lines(alloc, layout, sums.as_slice()),
+        Report::Matched { list } => matches_lines(alloc, list.as_slice()),
         Report::TrialOf {
             sectors,
             seed,

@@ -8,6 +8,15 @@ use parity_store::RecordKind;
 use rip_outside::{Name, ShelfCall};
 use wav_frames::WavKind;
 
+/// Why a response isn't read.
+#[derive(Clone, Copy, Debug, PartialEq, Eq)]
+pub enum ResponseKind {
+    /// The file has more bytes than a response may have.
+    TooLong,
+    /// The block that begins with this byte, counted from 0, goes on past the end.
+    Cut { at: u64 },
+}
+
 /// What a run came to.
 #[derive(Debug, Drop, PartialEq, Eq)]
 pub enum Status {
@@ -52,9 +61,13 @@ pub enum Status {
     OtherLayout {
         differs: Differs,
     },
-    /// The rip isn't near the record at any offset.
+    /// The record that was to get a seal has one.
+    Sealed {
+        name: Name,
+    },
+    /// The rip agrees with the record at no offset.
     NoCandidate,
-    /// The rip is near the record at these two offsets, and perhaps at later ones.
+    /// The rip agrees with the record at these two offsets, and perhaps at later ones.
     Several {
         first: i32,
         second: i32,
@@ -63,11 +76,21 @@ pub enum Status {
     NotNear {
         column: u32,
     },
-    /// The rip is near the record, and has so many wrong words, in so many columns.
+    /// The rip agrees with the record, and has so many wrong words, in so many columns.
     Mendable {
         offset: i32,
         errors: u32,
         columns: u32,
+    },
+    /// The rip is near the record at the given offset, and the words that fit don't have the record's seal.
+    SealDiffers,
+    /// The response to be read isn't there.
+    NoResponse {
+        name: Name,
+    },
+    /// The file is no response.
+    ResponseRefused {
+        kind: ResponseKind,
     },
     /// A call that reads failed.
     ReadFault {
@@ -103,6 +126,7 @@ impl Status {
             Status::RecordRefused { kind: _ } => 16,
             Status::OutExists { name: _ } => 17,
             Status::OtherLayout { differs: _ } => 18,
+            Status::Sealed { name: _ } => 19,
             Status::NoCandidate => 20,
             Status::Several {
                 first: _,
@@ -114,6 +138,9 @@ impl Status {
                 errors: _,
                 columns: _,
             } => 23,
+            Status::SealDiffers => 24,
+            Status::NoResponse { name: _ } => 25,
+            Status::ResponseRefused { kind: _ } => 26,
             Status::ReadFault { call: _ } => 30,
             Status::WriteFault { call: _ } => 31,
             Status::SinkFault => 32,

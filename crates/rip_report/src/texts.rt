@@ -1,8 +1,8 @@
 // The lines that more than one report has, and those of a run that is done.
-ghost use Rattle.std.specs.Prelude.{◌≡◌, ◌++◌, IfOk, IsOkAnd, unsigned_abs};
+ghost use Rattle.std.specs.Prelude.{◌≡◌, ◌++◌, codes, IfOk, IsOkAnd, unsigned_abs};
 ghost use Rattle.std.specs.Fmt.{decimal};
 ghost use Rattle.std.specs.String.{string_bytes};
-ghost use Rattle.rip_report.specs.Texts.{candidate_line, mendable_text, offset_text, offsets_text, registered_line, several_line, verified_text, written_text};
+ghost use Rattle.rip_report.specs.Texts.{candidate_line, joined_line, line, line_of, mendable_text, offset_text, offsets_text, registered_line, several_line, split_line, verified_text};
 
 use column_map::Candidate;
 use rip_outside::{Oom, Text};
@@ -93,12 +93,31 @@ pub(crate) fn offsets_lines(alloc: Global, found: &[Candidate]) -> Result<String
     Ok(text)
 }
 
-pub(crate) fn written_lines(alloc: Global, at: Candidate, name: &str) -> Result<String, AllocError>
-    ensures { IfOk result (λ made. string_bytes made ≡ written_text at name.now) }
+// The line of a candidate, and a line of a word and a name.
+pub(crate) fn named_lines(
+    alloc: Global,
+    at: Candidate,
+    word: &str,
+    name: &str,
+) -> Result<String, AllocError>
+    ensures { IfOk result (λ made. string_bytes made ≡ line_of at ++ line (word.now ++ codes " " ++ name.now)) }
 {
     let mut text = candidate_line(alloc, at.offset, at.errors, at.columns)?;
-    text.push_str("written ")?;
+    text.push_str(word)?;
+    text.push_str(" ")?;
     text.push_str(name)?;
     text.push_str("\n")?;
     Ok(text)
+}
+
+pub(crate) fn split_line(alloc: Global, folder: &str, tracks: u32) -> Result<String, AllocError>
+    ensures { IfOk result (λ made. string_bytes made ≡ split_line folder.now tracks) }
+{
+    format!(in alloc; "split {folder} tracks {tracks}\n")
+}
+
+pub(crate) fn joined_line(alloc: Global, name: &str, sectors: u32) -> Result<String, AllocError>
+    ensures { IfOk result (λ made. string_bytes made ≡ joined_line name.now sectors) }
+{
+    format!(in alloc; "joined {name} sectors {sectors}\n")
 }

@@ -1,5 +1,5 @@
 -- The words of the command line.
-use Rattle.std.specs.Prelude.{None, ◌≡◌, ℕ, ◌+◌, ◌==◌, ◌&&◌, nat_eq, nat_le, ◌≤◌, Bool, false, not, List, [], ◌∷◌, length, drop, Result, Ok, Err, codes, map, String, if◌then◌else◌, Option, Some, unwrap_or, ℤ}
+use Rattle.std.specs.Prelude.{IsUtf8, true, None, ◌≡◌, ℕ, ◌+◌, ◌==◌, ◌&&◌, nat_eq, nat_le, ◌≤◌, Bool, false, not, List, [], ◌∷◌, length, drop, Result, Ok, Err, codes, map, String, if◌then◌else◌, Option, Some, unwrap_or, ℤ}
 use Rattle.std.specs.List.{starts_with}
 use Rattle.std.specs.Str.{all_ascii_digits, bytes_eq}
 use Rattle.std.specs.Str.Parse.{digits_value, signed_digits_value, without_leading_sign}
@@ -7,11 +7,12 @@ use Rattle.std.specs.String.{string_bytes}
 use Rattle.std.specs.declared.alloc.Global.{Global}
 use Rattle.column_map.specs.Columns.{IsOffset}
 use Rattle.rip_words.specs.declared.Command.{Command}
-use Rattle.rip_words.specs.declared.Command.TheVariants.{Register, Verify, Offsets, Repair, Sums, Trial}
+use Rattle.rip_words.specs.declared.Command.TheVariants.{Register, Verify, Offsets, Repair, Upgrade, MatchSums, Sums, Trial, Split, Join}
+use Rattle.rip_words.specs.FileNames.{ends_in_slash, is_quotable, name_in_folder}
 use Rattle.column_map.specs.declared.npar.Npar.{Npar}
-use Rattle.column_map.specs.declared.npar.Npar.TheVariants.{Four, Eight, Sixteen}
+use Rattle.column_map.specs.declared.npar.Npar.TheVariants.{Four, Eight, Sixteen, ThirtyTwo}
 use Rattle.rip_words.specs.declared.Verb.{Verb}
-use Rattle.rip_words.specs.declared.Verb.TheVariants.{Register as ToRegister, Verify as ToVerify, Offsets as ToOffsets, Repair as ToRepair}
+use Rattle.rip_words.specs.declared.Verb.TheVariants.{Register as ToRegister, Verify as ToVerify, Offsets as ToOffsets, Repair as ToRepair, Upgrade as ToUpgrade, MatchSums as ToMatchSums}
 use Rattle.rip_words.specs.declared.WordsFail.{WordsFail}
 use Rattle.rip_words.specs.declared.WordsFail.TheVariants.{Usage, Oom}
 
@@ -25,12 +26,13 @@ is_name (first ∷ rest) = not (first == 45)
 
 -- ---- the options
 
--- the option that says how many: `--npar=4`, `--npar=8` or `--npar=16`
+-- the option that says how many: `--npar=4`, `--npar=8`, `--npar=16` or `--npar=32`
 abbrev pub npar_option : List ℕ → Option Npar
 npar_option word =
     if bytes_eq word (codes "--npar=4") then Some Four
     else if bytes_eq word (codes "--npar=8") then Some Eight
     else if bytes_eq word (codes "--npar=16") then Some Sixteen
+    else if bytes_eq word (codes "--npar=32") then Some ThirtyTwo
     else None
 
 -- an offset's digits: one to four decimal ones, with a value of at most 5,879
@@ -79,7 +81,12 @@ seed_of = number_of 10 0 4294967295
 abbrev pub hits_of : List ℕ → Option ℕ
 hits_of = number_of 5 0 58800
 
--- ---- the commands on a record
+-- ---- the commands with two names: INPUT, and REC or RESP
+
+-- no word stands at this index
+abbrev pub no_word : ℕ → Command → List (List ℕ) → Result Command ℕ
+no_word at command [] = Ok command
+no_word at command (more ∷ rest) = Err at
 
 -- the command with the value of its option
 abbrev pub with_option : {A : Type 0} → (A → Command) → Result A ℕ → Result Command ℕ
@@ -91,44 +98,42 @@ abbrev pub out_words : List ℕ → List ℕ → List (List ℕ) → Result Comm
 out_words input rec [] = Err 3
 out_words input rec (to ∷ rest) = if is_name to then with_option (Repair input rec to) (option_words offset_option 4 rest) else Err 3
 
--- the words after a command's own, INPUT and REC
+-- the words after a command's own and its two names
 abbrev pub command_words : Verb → List ℕ → List ℕ → List (List ℕ) → Result Command ℕ
 command_words ToRegister input rec words = with_option (λ npar. Register input rec (unwrap_or npar Eight)) (option_words npar_option 3 words)
 command_words ToVerify input rec words = with_option (Verify input rec) (option_words offset_option 3 words)
-command_words ToOffsets input rec [] = Ok (Offsets input rec)
-command_words ToOffsets input rec (more ∷ rest) = Err 3
+command_words ToOffsets input rec words = no_word 3 (Offsets input rec) words
 command_words ToRepair input rec words = out_words input rec words
+command_words ToUpgrade input rec words = no_word 3 (Upgrade input rec) words
+command_words ToMatchSums input resp words = no_word 3 (MatchSums input resp) words
 
--- the words after a command's own and INPUT: REC, and what that command has
+-- the words after a command's own and INPUT: the second name, and what that command has
 abbrev pub record_words : Verb → List ℕ → List (List ℕ) → Result Command ℕ
 record_words verb input [] = Err 2
 record_words verb input (rec ∷ rest) = if is_name rec then command_words verb input rec rest else Err 2
 
--- the words after the own one of a command on a record: INPUT, REC, and what that command has
+-- the words after the own one of a command with two names: INPUT, the second name, and what that command has
 abbrev pub input_words : Verb → List (List ℕ) → Result Command ℕ
 input_words verb [] = Err 1
 input_words verb (input ∷ rest) = if is_name input then record_words verb input rest else Err 1
 
--- the own words of the commands on a record
-abbrev pub verb_of : List ℕ → Option Verb
+-- the own words of these commands
+unfoldable pub verb_of : List ℕ → Option Verb
 verb_of word =
     if bytes_eq word (codes "register") then Some ToRegister
     else if bytes_eq word (codes "verify") then Some ToVerify
     else if bytes_eq word (codes "offsets") then Some ToOffsets
     else if bytes_eq word (codes "repair") then Some ToRepair
+    else if bytes_eq word (codes "upgrade") then Some ToUpgrade
+    else if bytes_eq word (codes "match") then Some ToMatchSums
     else None
 
--- the words after the first, of a command on a record
+-- the words after the first, of such a command
 abbrev pub verb_words : Option Verb → List (List ℕ) → Result Command ℕ
 verb_words None rest = Err 0
 verb_words (Some verb) rest = input_words verb rest
 
 -- ---- the other commands
-
--- no word stands at this index
-abbrev pub no_word : ℕ → Command → List (List ℕ) → Result Command ℕ
-no_word at command [] = Ok command
-no_word at command (more ∷ rest) = Err at
 
 -- what comes of the value of the word at this index, if it has one
 abbrev pub with_value : {A : Type 0} → ℕ → (A → Result Command ℕ) → Option A → Result Command ℕ
@@ -145,6 +150,24 @@ abbrev pub sums_words : List (List ℕ) → Result Command ℕ
 sums_words [] = Err 1
 sums_words (input ∷ rest) = if is_name input then no_word 2 (Sums input) rest else Err 1
 
+-- the words after `split`: INPUT, and FOLDER, which ends in "/"
+abbrev pub folder_words : List ℕ → List (List ℕ) → Result Command ℕ
+folder_words input [] = Err 2
+folder_words input (folder ∷ rest) = if is_name folder && ends_in_slash folder then no_word 3 (Split input folder) rest else Err 2
+
+abbrev pub split_words : List (List ℕ) → Result Command ℕ
+split_words [] = Err 1
+split_words (input ∷ rest) = if is_name input then folder_words input rest else Err 1
+
+-- the words after `join`: INPUT, and OUT, whose name in its folder may stand in a sheet
+abbrev pub file_words : List ℕ → List (List ℕ) → Result Command ℕ
+file_words input [] = Err 2
+file_words input (to ∷ rest) = if is_name to && is_quotable (name_in_folder to) then no_word 3 (Join input to) rest else Err 2
+
+abbrev pub join_words : List (List ℕ) → Result Command ℕ
+join_words [] = Err 1
+join_words (input ∷ rest) = if is_name input then file_words input rest else Err 1
+
 -- the words after `trial`: SECTORS, SEED, SHIFT and HITS
 abbrev pub trial_words : List (List ℕ) → Result Command ℕ
 trial_words =
@@ -157,6 +180,8 @@ abbrev pub command_reading : List (List ℕ) → Result Command ℕ
 command_reading [] = Err 0
 command_reading (first ∷ rest) =
     if bytes_eq first (codes "sums") then sums_words rest
+    else if bytes_eq first (codes "split") then split_words rest
+    else if bytes_eq first (codes "join") then join_words rest
     else if bytes_eq first (codes "trial") then trial_words rest
     else verb_words (verb_of first) rest
 
@@ -172,7 +197,11 @@ offset_in (Register input rec npar) = None
 offset_in (Verify input rec offset) = offset
 offset_in (Offsets input rec) = None
 offset_in (Repair input rec to offset) = offset
+offset_in (Upgrade input rec) = None
+offset_in (MatchSums input resp) = None
 offset_in (Sums input) = None
+offset_in (Split input folder) = None
+offset_in (Join input to) = None
 offset_in (Trial sectors seed shift hits) = None
 
 -- a trial has from 30 to 9,000 sectors, an offset as its shift, and at most 58,800 hits
@@ -188,5 +217,24 @@ TrialIsInRange (Register input rec npar) = Unit {0}
 TrialIsInRange (Verify input rec offset) = Unit {0}
 TrialIsInRange (Offsets input rec) = Unit {0}
 TrialIsInRange (Repair input rec to offset) = Unit {0}
+TrialIsInRange (Upgrade input rec) = Unit {0}
+TrialIsInRange (MatchSums input resp) = Unit {0}
 TrialIsInRange (Sums input) = Unit {0}
+TrialIsInRange (Split input folder) = Unit {0}
+TrialIsInRange (Join input to) = Unit {0}
 TrialIsInRange (Trial sectors seed shift hits) = IsTrial sectors shift hits
+
+-- ---- the names of a command that writes a sheet
+
+-- The folder of the tracks ends in "/", and the name of the one file may stand in a sheet, in its folder.
+abbrev pub NamesMayStand : Command → Type 0
+NamesMayStand (Register input rec npar) = Unit {0}
+NamesMayStand (Verify input rec offset) = Unit {0}
+NamesMayStand (Offsets input rec) = Unit {0}
+NamesMayStand (Repair input rec to offset) = Unit {0}
+NamesMayStand (Upgrade input rec) = Unit {0}
+NamesMayStand (MatchSums input resp) = Unit {0}
+NamesMayStand (Sums input) = Unit {0}
+NamesMayStand (Split input folder) = ends_in_slash folder ≡ true
+NamesMayStand (Join input to) = (is_quotable (name_in_folder to) ≡ true) × IsUtf8 (name_in_folder to)
+NamesMayStand (Trial sectors seed shift hits) = Unit {0}

@@ -5,9 +5,13 @@ ghost use Rattle.std.specs.Prelude.{◌≡◌, ◌<◌, ◌≤◌, ◌^◌, ◌+
 ghost use Rattle.std.specs.Str.Parse.{without_leading_sign};
 ghost use Rattle.std.specs.String.{string_bytes};
 ghost use Rattle.column_map.specs.Columns.{IsOffset};
-ghost use Rattle.rip_words.specs.Command.{ReadsWords, TrialIsInRange, command_reading, command_words, hits_of, input_words, is_name, last_option, no_word, npar_option, number_of, offset_in, offset_of, offset_option, option_words, out_words, record_words, sectors_of, seed_of, sums_words, texts, trial_words, verb_of};
+ghost use Rattle.rip_words.specs.Command.{NamesMayStand, ReadsWords, TrialIsInRange, command_reading, command_words, hits_of, input_words, is_name, last_option, no_word, npar_option, number_of, offset_in, offset_of, offset_option, option_words, out_words, record_words, sectors_of, seed_of, sums_words, texts, trial_words, verb_of, verb_words, file_words, folder_words, join_words, split_words};
+
+mod naming;
 
 pub use column_map::Npar;
+pub use naming::name_in_folder;
+use naming::{ends_in_slash, is_quotable};
 use rip_basics::Name;
 use std::alloc::Global;
 
@@ -38,9 +42,29 @@ pub enum Command {
         to: Name,
         offset: Option<i32>,
     },
+    /// Gives the record REC, which has no seal, the seal of the rip INPUT, which has no wrong word.
+    Upgrade {
+        input: Name,
+        rec: Name,
+    },
+    /// Prints the matches of the sums of the rip INPUT with the response RESP, which is a name, or a folder that ends in `/`.
+    MatchSums {
+        input: Name,
+        resp: Name,
+    },
     /// Prints the ids of the rip INPUT and the sums of its tracks.
     Sums {
         input: Name,
+    },
+    /// Writes each track of the rip INPUT as a file of its own in FOLDER, and their sheet.
+    Split {
+        input: Name,
+        folder: Name,
+    },
+    /// Writes the rip INPUT as one file under the name OUT, and its sheet beside it.
+    Join {
+        input: Name,
+        to: Name,
     },
     /// Makes an image of so many sectors from a seed, and of it a rip that is `shift` samples late and has so many words
     /// made wrong, and mends that rip.
@@ -61,13 +85,15 @@ pub enum WordsFail {
     Oom,
 }
 
-// What the own word of a command with INPUT and REC asks for.
+// What the own word of a command asks for that has two names after it: INPUT, and REC or RESP.
 #[derive(Clone, Copy)]
 enum Verb {
     Register,
     Verify,
     Offsets,
     Repair,
+    Upgrade,
+    MatchSums,
 }
 
 // A word that names a file isn't empty and doesn't begin with `-`, which begins an option.
@@ -98,6 +124,7 @@ fn npar_option(word: &str) -> Option<Npar>
         "--npar=4" => Some(Npar::Four),
         "--npar=8" => Some(Npar::Eight),
         "--npar=16" => Some(Npar::Sixteen),
+        "--npar=32" => Some(Npar::ThirtyTwo),
         _ => None,
     }
 }
@@ -224,6 +251,7 @@ fn read_out(
     ensures value { ReadsWords result (out_words (string_bytes input.now) (string_bytes rec.now) (texts words.now)) }
     ensures range { IfOk result (λ read. IfSome (offset_in read) IsOffset) }
     ensures trial { IfOk result TrialIsInRange }
+    ensures names { IfOk result NamesMayStand }
 {
     match words {
         [] => Err(WordsFail::Usage { word: 3 }),
@@ -242,7 +270,7 @@ fn read_out(
     }
 }
 
-// The words after INPUT and REC.
+// The words after INPUT and REC, or RESP.
 fn read_command(
     alloc: Global,
     verb: Verb,
@@ -253,6 +281,7 @@ fn read_command(
     ensures value { ReadsWords result (command_words verb (string_bytes input.now) (string_bytes rec.now) (texts words.now)) }
     ensures range { IfOk result (λ read. IfSome (offset_in read) IsOffset) }
     ensures trial { IfOk result TrialIsInRange }
+    ensures names { IfOk result NamesMayStand }
 {
     match verb {
         Verb::Register => {
@@ -271,14 +300,22 @@ fn read_command(
                 offset,
             })
         }
-        Verb::Offsets => match words {
-            [] => Ok(Command::Offsets {
-                input: name_of(alloc, input)?,
-                rec: name_of(alloc, rec)?,
-            }),
-            [_, ..] => Err(WordsFail::Usage { word: 3 }),
-        },
+        Verb::Offsets => {
+            let input = name_of(alloc, input)?;
+            let rec = name_of(alloc, rec)?;
+            no_word(3, Command::Offsets { input, rec }, words)
+        }
         Verb::Repair => read_out(alloc, input, rec, words),
+        Verb::Upgrade => {
+            let input = name_of(alloc, input)?;
+            let rec = name_of(alloc, rec)?;
+            no_word(3, Command::Upgrade { input, rec }, words)
+        }
+        Verb::MatchSums => {
+            let input = name_of(alloc, input)?;
+            let resp = name_of(alloc, rec)?;
+            no_word(3, Command::MatchSums { input, resp }, words)
+        }
     }
 }
 
@@ -292,6 +329,7 @@ fn read_record(
     ensures value { ReadsWords result (record_words verb (string_bytes input.now) (texts words.now)) }
     ensures range { IfOk result (λ read. IfSome (offset_in read) IsOffset) }
     ensures trial { IfOk result TrialIsInRange }
+    ensures names { IfOk result NamesMayStand }
 {
     match words {
         [] => Err(WordsFail::Usage { word: 2 }),
@@ -309,6 +347,7 @@ fn read_input(alloc: Global, verb: Verb, words: &[String]) -> Result<Command, Wo
     ensures value { ReadsWords result (input_words verb (texts words.now)) }
     ensures range { IfOk result (λ read. IfSome (offset_in read) IsOffset) }
     ensures trial { IfOk result TrialIsInRange }
+    ensures names { IfOk result NamesMayStand }
 {
     match words {
         [] => Err(WordsFail::Usage { word: 1 }),
@@ -337,6 +376,7 @@ fn read_sums(alloc: Global, words: &[String]) -> Result<Command, WordsFail>
     ensures value { ReadsWords result (sums_words (texts words.now)) }
     ensures range { IfOk result (λ read. IfSome (offset_in read) IsOffset) }
     ensures trial { IfOk result TrialIsInRange }
+    ensures names { IfOk result NamesMayStand }
 {
     match words {
         [] => Err(WordsFail::Usage { word: 1 }),
@@ -350,11 +390,88 @@ fn read_sums(alloc: Global, words: &[String]) -> Result<Command, WordsFail>
     }
 }
 
+// The words after INPUT of `split`: FOLDER.
+fn read_folder(alloc: Global, input: &String, words: &[String]) -> Result<Command, WordsFail>
+    ensures value { ReadsWords result (folder_words (string_bytes input.now) (texts words.now)) }
+    ensures range { IfOk result (λ read. IfSome (offset_in read) IsOffset) }
+    ensures trial { IfOk result TrialIsInRange }
+    ensures names { IfOk result NamesMayStand }
+{
+    match words {
+        [] => Err(WordsFail::Usage { word: 2 }),
+        [folder, rest @ ..] => {
+            if !is_name(folder.as_bytes()) || !ends_in_slash(folder.as_bytes()) {
+                return Err(WordsFail::Usage { word: 2 });
+            }
+            let input = name_of(alloc, input)?;
+            let folder = name_of(alloc, folder)?;
+            no_word(3, Command::Split { input, folder }, rest)
+        }
+    }
+}
+
+// The words of `split`: INPUT and FOLDER.
+fn read_split(alloc: Global, words: &[String]) -> Result<Command, WordsFail>
+    ensures value { ReadsWords result (split_words (texts words.now)) }
+    ensures range { IfOk result (λ read. IfSome (offset_in read) IsOffset) }
+    ensures trial { IfOk result TrialIsInRange }
+    ensures names { IfOk result NamesMayStand }
+{
+    match words {
+        [] => Err(WordsFail::Usage { word: 1 }),
+        [input, rest @ ..] => {
+            if !is_name(input.as_bytes()) {
+                return Err(WordsFail::Usage { word: 1 });
+            }
+            read_folder(alloc, input, rest)
+        }
+    }
+}
+
+// The words after INPUT of `join`: OUT.
+fn read_file(alloc: Global, input: &String, words: &[String]) -> Result<Command, WordsFail>
+    ensures value { ReadsWords result (file_words (string_bytes input.now) (texts words.now)) }
+    ensures range { IfOk result (λ read. IfSome (offset_in read) IsOffset) }
+    ensures trial { IfOk result TrialIsInRange }
+    ensures names { IfOk result NamesMayStand }
+{
+    match words {
+        [] => Err(WordsFail::Usage { word: 2 }),
+        [to, rest @ ..] => {
+            if !is_name(to.as_bytes()) || !is_quotable(name_in_folder(to.as_str()).as_bytes()) {
+                return Err(WordsFail::Usage { word: 2 });
+            }
+            let input = name_of(alloc, input)?;
+            let to = name_of(alloc, to)?;
+            no_word(3, Command::Join { input, to }, rest)
+        }
+    }
+}
+
+// The words of `join`: INPUT and OUT.
+fn read_join(alloc: Global, words: &[String]) -> Result<Command, WordsFail>
+    ensures value { ReadsWords result (join_words (texts words.now)) }
+    ensures range { IfOk result (λ read. IfSome (offset_in read) IsOffset) }
+    ensures trial { IfOk result TrialIsInRange }
+    ensures names { IfOk result NamesMayStand }
+{
+    match words {
+        [] => Err(WordsFail::Usage { word: 1 }),
+        [input, rest @ ..] => {
+            if !is_name(input.as_bytes()) {
+                return Err(WordsFail::Usage { word: 1 });
+            }
+            read_file(alloc, input, rest)
+        }
+    }
+}
+
 // The words of `trial`: SECTORS, SEED, SHIFT and HITS.
 fn read_trial(words: &[String]) -> Result<Command, WordsFail>
     ensures value { ReadsWords result (trial_words (texts words.now)) }
     ensures range { IfOk result (λ read. IfSome (offset_in read) IsOffset) }
     ensures trial { IfOk result TrialIsInRange }
+    ensures names { IfOk result NamesMayStand }
 {
     let [sectors, words @ ..] = words else {
         return Err(WordsFail::Usage { word: 1 });
@@ -392,7 +509,8 @@ fn read_trial(words: &[String]) -> Result<Command, WordsFail>
     )
 }
 
-// What the own word of a command with INPUT and REC asks for.
+// What the own word of a command with two names asks for.
+#[tactic(auto, unfolding(crate::specs::Command::verb_of))]
 fn verb_of(word: &str) -> Option<Verb>
     ensures { result ≡ verb_of word.now }
 {
@@ -401,27 +519,43 @@ fn verb_of(word: &str) -> Option<Verb>
         "verify" => Some(Verb::Verify),
         "offsets" => Some(Verb::Offsets),
         "repair" => Some(Verb::Repair),
+        "upgrade" => Some(Verb::Upgrade),
+        "match" => Some(Verb::MatchSums),
         _ => None,
+    }
+}
+
+// The words after the first, of a command with two names.
+fn read_verb(alloc: Global, verb: Option<Verb>, words: &[String]) -> Result<Command, WordsFail>
+    ensures value { ReadsWords result (verb_words verb (texts words.now)) }
+    ensures range { IfOk result (λ read. IfSome (offset_in read) IsOffset) }
+    ensures trial { IfOk result TrialIsInRange }
+    ensures names { IfOk result NamesMayStand }
+{
+    match verb {
+        Some(verb) => read_input(alloc, verb, words),
+        None => Err(WordsFail::Usage { word: 0 }),
     }
 }
 
 /// The command that the words are. `Usage` comes exactly where the grammar refuses, with the index of the first
 /// word that breaks a rule, or the number of words where one is missing. An offset that was read is from -5,879 to 5,879,
-/// and so is the shift of a trial; its sectors are from 30 to 9,000, and its hits at most 58,800.
+/// and so is the shift of a trial; its sectors are from 30 to 9,000, and its hits at most 58,800. The folder of `split` ends
+/// in `/`, and the name of `join`'s file may stand in a sheet.
 pub fn read_words(alloc: Global, words: &[String]) -> Result<Command, WordsFail>
     ensures value { ReadsWords result (command_reading (texts words.now)) }
     ensures offsets { IfOk result (λ read. IfSome (offset_in read) IsOffset) }
     ensures trials { IfOk result TrialIsInRange }
+    ensures names { IfOk result NamesMayStand }
 {
     match words {
         [] => Err(WordsFail::Usage { word: 0 }),
         [first, rest @ ..] => match first.as_str() {
             "sums" => read_sums(alloc, rest),
+            "split" => read_split(alloc, rest),
+            "join" => read_join(alloc, rest),
             "trial" => read_trial(rest),
-            word => match verb_of(word) {
-                Some(verb) => read_input(alloc, verb, rest),
-                None => Err(WordsFail::Usage { word: 0 }),
-            },
+            word => read_verb(alloc, verb_of(word), rest),
         },
     }
 }

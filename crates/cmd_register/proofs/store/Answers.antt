@@ -1,8 +1,6 @@
-use Rattle.std.proofs.Common.{◌≡◌, ◌∙◌, ap, rules, [], ◌∷◌, ap₂, sym}
+use Rattle.std.proofs.Common.{◌≡◌, ◌∙◌, rules, [], ◌∷◌, Some, ap₂, sym}
 use Rattle.std.specs.Prelude.{IfSome}
-use Rattle.rip_outside.proofs.FilesLaws.{if_told_weaker, when_told}
-use Rattle.column_map.specs.Columns.{per_column}
-use Rattle.syndrome_stream.specs.Parity.{image_parity}
+use Rattle.rip_outside.proofs.FilesLaws.{when_told}
 use Rattle.disc_toc.specs.Toc.{toc_of}
 use Rattle.image_mender.specs.Joined.{joined_words}
 use Rattle.parity_store.specs.Record.{parity_count, record_bytes_of, parity_rows}
@@ -12,6 +10,7 @@ use Rattle.engine_words.specs.Records.{record_of}
 use Rattle.engine_steps.proofs.Leaving.{stored}
 use Rattle.engine_steps.specs.Outcome.{output, written}
 use Rattle.engine_steps.proofs.CrashingLaws.{safe_after, safe_weaker}
+use Rattle.cmd_register.proofs.RegisterLaws.{record_made}
 use Rattle.cmd_register.proofs.store.Goals as goal
 
 pub returns-clause-leaves : goal.returns-clause-leaves
@@ -22,15 +21,11 @@ returns-clause-leaves g c =
     let count = parity_words c.args.npar in
     let image = c.args.image.now in
     let text : c.in_ok-text.text ≡ registered_line c.args.name.now c.args.layout.sectors count = search rules in
-    let size : parity_count parity ≡ count = c.in_ok-parity.ensures.size in
-    let made_of : c.deref.result.now ≡ record_bytes_of toc (parity_count parity) (parity_rows parity) = search rules in
-    let bytes : c.deref.result.now ≡ record_bytes_of toc count (parity_rows parity) = made_of ∙ ap (λ n. record_bytes_of toc n (parity_rows parity)) size in
+    let made_of : c.deref.result.now ≡ record_bytes_of toc (parity_count parity) (parity_rows parity) (Some c.in_ok-parity.seal) = search rules in
     let made : IfSome h0 (λ files. c.deref.result.now ≡ record_of count toc (joined_words image files)) =
-    if_told_weaker h0 (λ files. parity_rows parity ≡ image_parity count (per_column c.args.shape) (joined_words image files)) _
-    (λ files read_parity. bytes ∙ ap (λ rows. record_bytes_of toc count rows) (read_parity ∙ ap (λ s. image_parity count (per_column s) (joined_words image files)) c.requires.shape))
-    c.in_ok-parity.ensures.parity in
+    record_made h0 image toc count (parity_count parity) c.args.shape (parity_rows parity) c.in_ok-parity.seal c.deref.result.now c.in_ok-parity.ensures.size c.requires.shape made_of c.in_ok-parity.ensures.parity c.in_ok-parity.ensures.seal in
     stored c.args.name.now (registered_line c.args.name.now c.args.layout.sectors count) c.in_ok-text.text c.deref.result.now (λ files. record_of count toc (joined_words image files)) c.write_out.result
-    h0 _ _ c.parity_of.ensures.only.same text made c.write_out.ensures.leaves
+    h0 _ _ c.parity_and_seal.ensures.only.same text made c.write_out.ensures.leaves
 
 pub returns-clause-crashes : goal.returns-clause-crashes
 returns-clause-crashes g c =
@@ -40,14 +35,10 @@ returns-clause-crashes g c =
     let count = parity_words c.args.npar in
     let image = c.args.image.now in
     let text : c.in_ok-text.text ≡ registered_line c.args.name.now c.args.layout.sectors count = search rules in
-    let size : parity_count parity ≡ count = c.in_ok-parity.ensures.size in
-    let made_of : c.deref.result.now ≡ record_bytes_of toc (parity_count parity) (parity_rows parity) = search rules in
-    let bytes : c.deref.result.now ≡ record_bytes_of toc count (parity_rows parity) = made_of ∙ ap (λ n. record_bytes_of toc n (parity_rows parity)) size in
+    let made_of : c.deref.result.now ≡ record_bytes_of toc (parity_count parity) (parity_rows parity) (Some c.in_ok-parity.seal) = search rules in
     let made : IfSome h0 (λ files. c.deref.result.now ≡ record_of count toc (joined_words image files)) =
-    if_told_weaker h0 (λ files. parity_rows parity ≡ image_parity count (per_column c.args.shape) (joined_words image files)) _
-    (λ files read_parity. bytes ∙ ap (λ rows. record_bytes_of toc count rows) (read_parity ∙ ap (λ s. image_parity count (per_column s) (joined_words image files)) c.requires.shape))
-    c.in_ok-parity.ensures.parity in
+    record_made h0 image toc count (parity_count parity) c.args.shape (parity_rows parity) c.in_ok-parity.seal c.deref.result.now c.in_ok-parity.ensures.size c.requires.shape made_of c.in_ok-parity.ensures.parity c.in_ok-parity.ensures.seal in
     let tells = g.met.S.Shelf.tells_held in
-    safe_after _ _ _ _ _ c.parity_of.ensures.only.crashes
-    (safe_weaker (λ _ o. o ≡ written c.in_ok-text.text (output c.args.name.now c.deref.result.now ∷ [])) _ _ _ _ _ _ (tells c.parity_of.new.shelf) (tells c.write_out.new.shelf)
-    (λ files told o is. is ∙ ap₂ (λ t b. written t (output c.args.name.now b ∷ [])) text (when_told h0 _ made files (sym c.parity_of.ensures.only.same ∙ told))) c.write_out.ensures.crashes)
+    safe_after _ _ _ _ _ c.parity_and_seal.ensures.only.crashes
+    (safe_weaker (λ _ o. o ≡ written c.in_ok-text.text (output c.args.name.now c.deref.result.now ∷ [])) _ _ _ _ _ _ (tells c.parity_and_seal.new.shelf) (tells c.write_out.new.shelf)
+    (λ files told o is. is ∙ ap₂ (λ t b. written t (output c.args.name.now b ∷ [])) text (when_told h0 _ made files (sym c.parity_and_seal.ensures.only.same ∙ told))) c.write_out.ensures.crashes)

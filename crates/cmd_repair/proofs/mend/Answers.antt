@@ -2,6 +2,7 @@ use Rattle.std.proofs.Common.{◌≡◌, ◌∙◌, ap, ◌+◌, ◌*◌, ◌≤
 use Rattle.std.specs.List.{list_any}
 use Rattle.std.specs.Str.{bytes_eq}
 use Rattle.rip_outside.proofs.FilesLaws.{if_told, if_told_weaker, when_told}
+use Rattle.column_map.specs.Columns.{per_column}
 use Rattle.image_mender.specs.Joined.{AreInFiles, word_count, joined_words}
 use Rattle.image_mender.proofs.JoinLaws.{length-joined_words}
 use Rattle.rip_outside.specs.Outputs.{part_of}
@@ -10,7 +11,7 @@ use Rattle.engine_steps.specs.Steps.{compared, free}
 use Rattle.engine_search.specs.Picking.{Picks, Mends}
 use Rattle.cmd_repair.specs.RepairOutcome.{IsWrittenOutcome, answer_told, IsRepairOutcome}
 use Rattle.engine_steps.specs.Outcome.{Then, ThenOf, output, written}
-use Rattle.engine_search.proofs.PickLaws.{compared_picks}
+use Rattle.engine_search.proofs.PickLaws.{compared_picks, covered_below}
 use Rattle.engine_steps.proofs.NameLaws.{unread_differs}
 use Rattle.cmd_repair.proofs.RepairLaws.{written_of, repair_meets, written_meets}
 use Rattle.engine_steps.proofs.Leaving.{free_told, stopped, went_on, went_on_of}
@@ -18,7 +19,8 @@ use Rattle.std.proofs.lemmas.Result.{err_from_is_err_and}
 use Rattle.std.proofs.lemmas.List.Elements.{Contains-append_left}
 use Rattle.rip_outside.specs.Files.{Files}
 use Rattle.rip_inputs.specs.Opening.{lengths_of}
-use Rattle.engine_steps.proofs.TakingLaws.{compared_room, found_told, more_so_far, none_so_far, rip_within, takes_last, takes_so_far, takes_stopped}
+use Rattle.engine_steps.proofs.TakingLaws.{found_told}
+use Rattle.engine_search.proofs.SealingLaws.{compare_stopped, compare_went, compared_bytes, compared_image, compared_sealing, sealed_more, sealed_stopped}
 use Rattle.rip_outside.proofs.CrashLaws.{told_rests_twice}
 use Rattle.wav_frames.specs.Wav.{wav_bytes}
 use Rattle.image_mender.specs.Patched.{patched}
@@ -34,7 +36,13 @@ write_repair-requires-clause-apart g c = λ k d below same.
     unread_differs c.as_str-4.result.now (names_of found) _ unread (Contains-append_left found.names (found.rec ∷ []) _ named) same
 
 pub write_repair-requires-clause-lie : goal.write_repair-requires-clause-lie
-write_repair-requires-clause-lie g c = let lie = c.in_ok-picked.ensures.lie in lie.below
+write_repair-requires-clause-lie g c =
+    let found = c.in_ok-image.field-0 in
+    let low : 30 ≤ found.shape = c.in_ok-image.ensures.range.0 in
+    covered_below (per_column found.shape) (word_count found.image) c.in_ok-picked.picked.at.offset c.in_ok-picked.picked.fixes.items (omega (arith, c.in_ok-image.ensures.count)) c.in_ok-picked.ensures.lie
+
+pub write_repair-requires-clause-rising : goal.write_repair-requires-clause-rising
+write_repair-requires-clause-rising g c = c.in_ok-picked.ensures.lie.rising
 
 pub returns-clause-leaves : goal.returns-clause-leaves
 returns-clause-leaves g c =
@@ -78,16 +86,18 @@ returns-in_err-check_free-clause-leaves g c =
     (search rules) (ap answer_told p.1) (c.check_free.ensures.only.same ∙ c.compare.ensures.only.same) c.check_free.ensures.cause
     (free_told to (names_of found) h0 c.check_free.result (rw (c.compare.ensures.only.same, read) at c.check_free.ensures.answer)))
 
-abbrev all_bytes : List ℕ → List ℕ → Files → ℕ
-all_bytes input rec files = lengths_of (compared_names input rec files) files
+pub returns-in_err-image-clause-taken : goal.returns-in_err-image-clause-taken
+returns-in_err-image-clause-taken g c =
+    let p = err_from_is_err_and c.from_residual.result c.from_residual.ensures.1 in
+    compare_stopped (g.S.Shelf.held c.args.shelf.now) (compared c.args.input.now c.args.rec.now) c.args.offset (compared_bytes c.args.input.now c.args.rec.now) _ _ c.compare.result p.0 c.from_residual.result (search rules) p.1 c.compare.ensures.taken
+
+pub returns-in_err-part-clause-taken : goal.returns-in_err-part-clause-taken
+returns-in_err-part-clause-taken g c =
+    compare_went (g.S.Shelf.held c.args.shelf.now) (compared c.args.input.now c.args.rec.now) c.args.offset (compared_bytes c.args.input.now c.args.rec.now) _ _ c.compare.result c.in_ok-image.field-0 c.from_residual-in_err-part.result (search rules) c.compare.ensures.taken
 
 pub returns-in_err-check_free-clause-taken : goal.returns-in_err-check_free-clause-taken
 returns-in_err-check_free-clause-taken g c =
-    let h0 = g.S.Shelf.held c.args.shelf.now in
-    let input = c.args.input.now in
-    let rec = c.args.rec.now in
-    takes_so_far h0 (λ files. 3 * all_bytes input rec files) _ _ _
-    (rw c.check_free.ensures.taken (more_so_far h0 h0 (λ _. 0) (all_bytes input rec) (λ files. 3 * all_bytes input rec files) _ _ _ c.compare.result c.in_ok-image.field-0 (search rules) refl (none_so_far h0 _) c.compare.ensures.taken (λ files told. omega arith)))
+    rw c.check_free.ensures.taken (compare_went (g.S.Shelf.held c.args.shelf.now) (compared c.args.input.now c.args.rec.now) c.args.offset (compared_bytes c.args.input.now c.args.rec.now) _ _ c.compare.result c.in_ok-image.field-0 c.from_residual-in_err-check_free.result (search rules) c.compare.ensures.taken)
 
 pub returns-in_err-picked-clause-taken : goal.returns-in_err-picked-clause-taken
 returns-in_err-picked-clause-taken g c =
@@ -96,13 +106,9 @@ returns-in_err-picked-clause-taken g c =
     let rec = c.args.rec.now in
     let found = c.in_ok-image.field-0 in
     let p = err_from_is_err_and c.from_residual-in_err-picked.result c.from_residual-in_err-picked.ensures.1 in
-    takes_stopped h0 _ (all_bytes input rec) (λ _. 2 * word_count found.image) (λ files. 3 * all_bytes input rec files) _ _ _ c.mend_of.result p.0 c.from_residual-in_err-picked.result
-    (search rules) p.1 (c.check_free.ensures.only.same ∙ c.compare.ensures.only.same)
-    (rw c.check_free.ensures.taken (more_so_far h0 h0 (λ _. 0) (all_bytes input rec) (all_bytes input rec) _ _ _ c.compare.result found (search rules) refl (none_so_far h0 _) c.compare.ensures.taken (λ files told. omega arith)))
-    (if_told _ _ (λ _ _. c.mend_of.ensures.taken))
-    (λ files told.
-    let both : compared input rec files ≡ Ok (both_of files found) = found_told h0 both_of (compared input rec) c.compare.result found (search rules) c.compare.ensures.answer files told in
-    omega (arith, compared_room input rec files (known_of files found) (names_of found) both, rip_within input rec files, c.in_ok-image.ensures.count))
+    sealed_stopped h0 (compared input rec) c.args.offset (compared_bytes input rec) _ _ c.mend_of.result p.0 c.from_residual-in_err-picked.result (search rules) p.1
+    (compared_sealing h0 _ input rec found c.args.offset _ _ _ c.compare.result c.mend_of.result (search rules) (c.check_free.ensures.only.same ∙ c.compare.ensures.only.same) c.compare.ensures.answer
+    (rw (← c.check_free.ensures.taken) at c.compare.ensures.taken) c.in_ok-image.ensures.count c.mend_of.ensures.taken)
 
 pub returns-clause-taken : goal.returns-clause-taken
 returns-clause-taken g c =
@@ -110,17 +116,11 @@ returns-clause-taken g c =
     let input = c.args.input.now in
     let rec = c.args.rec.now in
     let found = c.in_ok-image.field-0 in
-    let before = c.check_free.ensures.only.same ∙ c.compare.ensures.only.same in
-    let room : (files : Files) → h0 ≡ Some files → 2 * (2 * word_count found.image) ≤ 2 * all_bytes input rec files =
-    λ files told.
-    let both : compared input rec files ≡ Ok (both_of files found) = found_told h0 both_of (compared input rec) c.compare.result found (search rules) c.compare.ensures.answer files told in
-    omega (arith, compared_room input rec files (known_of files found) (names_of found) both, rip_within input rec files, c.in_ok-image.ensures.count) in
-    takes_last h0 _ (λ files. all_bytes input rec files + 2 * word_count found.image) (λ _. 2 * word_count found.image) (λ files. 3 * all_bytes input rec files) _ _ _ c.write_repair.result (c.mend_of.ensures.only.same ∙ before)
-    (more_so_far h0 _ (all_bytes input rec) (λ _. 2 * word_count found.image) (λ files. all_bytes input rec files + 2 * word_count found.image) _ _ _ c.mend_of.result c.in_ok-picked.picked (search rules) before
-    (rw c.check_free.ensures.taken (more_so_far h0 h0 (λ _. 0) (all_bytes input rec) (all_bytes input rec) _ _ _ c.compare.result found (search rules) refl (none_so_far h0 _) c.compare.ensures.taken (λ files told. omega arith)))
-    (if_told _ _ (λ _ _. c.mend_of.ensures.taken)) (λ files told. omega arith))
-    (if_told _ _ (λ _ _. c.write_repair.ensures.taken))
-    (λ files told. omega (arith, room files told))
+    sealed_more h0 (compared input rec) c.args.offset (compared_bytes input rec) _ _ c.mend_of.result c.in_ok-picked.picked _ (2 * word_count found.image) c.write_repair.result (search rules)
+    (compared_sealing h0 _ input rec found c.args.offset _ _ _ c.compare.result c.mend_of.result (search rules) (c.check_free.ensures.only.same ∙ c.compare.ensures.only.same) c.compare.ensures.answer
+    (rw (← c.check_free.ensures.taken) at c.compare.ensures.taken) c.in_ok-image.ensures.count c.mend_of.ensures.taken)
+    (compared_image h0 input rec found c.compare.result (search rules) c.compare.ensures.answer c.in_ok-image.ensures.count)
+    c.write_repair.ensures.taken
 
 pub returns-clause-picks : goal.returns-clause-picks
 returns-clause-picks g c =

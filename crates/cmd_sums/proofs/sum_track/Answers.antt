@@ -1,6 +1,6 @@
 use Rattle.std.proofs.Common.{◌+◌, arith}
 use Rattle.disc_toc.specs.Toc.{toc_of}
-use Rattle.cmd_sums.proofs.SummingLaws.{begin_rises, begin_within}
+use Rattle.engine_sums.proofs.BeginLaws.{begin_rises, begin_within}
 use Rattle.cmd_sums.proofs.sum_track.Goals as goal
 
 pub overflow_sub-end : goal.overflow_sub-end

@@ -7,8 +7,9 @@ use Rattle.rip_outside.proofs.FilesLaws.{if_told_both}
 use Rattle.accurip_sums.specs.declared.pair.Sums.{Sums}
 use Rattle.disc_toc.specs.Toc.{toc_of}
 use Rattle.image_mender.specs.Joined.{joined_words, word_count}
-use Rattle.cmd_sums.specs.SumsOutcome.{begin_of, sums_of}
-use Rattle.cmd_sums.proofs.SummingLaws.{begin_rises, begin_within}
+use Rattle.engine_sums.specs.Tracks.{begin_of}
+use Rattle.cmd_sums.specs.SumsOutcome.{sums_of}
+use Rattle.engine_sums.proofs.BeginLaws.{begin_rises, begin_within}
 use Rattle.engine_steps.proofs.TakingLaws.{stopped_takes, takes_after}
 use Rattle.rip_outside.proofs.ReadingLaws.{reads_twice}
 use Rattle.cmd_sums.proofs.sum_tracks.Goals as goal

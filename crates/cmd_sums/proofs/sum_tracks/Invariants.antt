@@ -4,7 +4,8 @@ use Rattle.std.specs.List.{range_with_len}
 use Rattle.rip_outside.specs.Reading.{OnlyReads}
 use Rattle.disc_toc.specs.Toc.{toc_of}
 use Rattle.image_mender.specs.Joined.{joined_words}
-use Rattle.cmd_sums.specs.SumsOutcome.{begin_of, sums_of}
+use Rattle.engine_sums.specs.Tracks.{begin_of}
+use Rattle.cmd_sums.specs.SumsOutcome.{sums_of}
 use Rattle.cmd_sums.proofs.sum_tracks.Given as goal
 
 abbrev pub invariant-loop-i : goal.invariant-loop-i

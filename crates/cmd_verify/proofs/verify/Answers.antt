@@ -1,16 +1,12 @@
-use Rattle.std.proofs.Common.{◌≡◌, ◌∙◌, ◌*◌, ℕ, List, Ok, arith, refl, rules}
-use Rattle.engine_steps.specs.Comparing.{both_of, known_of, names_of, compared_names}
+use Rattle.std.proofs.Common.{◌≡◌, ◌∙◌, rules}
+use Rattle.engine_steps.specs.Comparing.{both_of, known_of}
 use Rattle.engine_steps.specs.Steps.{compared}
 use Rattle.engine_search.specs.Picking.{Picks}
 use Rattle.engine_steps.specs.Outcome.{ThenOf}
 use Rattle.cmd_verify.specs.VerifyOutcome.{judged}
 use Rattle.engine_steps.proofs.Leaving.{told_leaves, went_on, went_on_of}
 use Rattle.std.proofs.lemmas.Result.{err_from_is_err_and}
-use Rattle.rip_outside.specs.Files.{Files}
-use Rattle.rip_outside.proofs.FilesLaws.{if_told}
-use Rattle.image_mender.specs.Joined.{word_count}
-use Rattle.rip_inputs.specs.Opening.{lengths_of}
-use Rattle.engine_steps.proofs.TakingLaws.{compared_room, found_told, more_so_far, none_so_far, rip_within, takes_so_far, takes_stopped}
+use Rattle.engine_search.proofs.SealingLaws.{compare_stopped, compared_bytes, compared_sealing, sealed_stopped, sealed_went}
 use Rattle.rip_outside.proofs.ReadingLaws.{reads_twice}
 use Rattle.cmd_verify.proofs.verify.Goals as goal
 
@@ -25,8 +21,10 @@ returns-clause-leaves g c =
     (search rules) (rw c.compare.ensures.only.same at c.pick_of.ensures.picks)
     (told_leaves (λ files o. o ≡ judged c.in_ok-at.at) h0 _ c.judge.result (c.pick_of.ensures.only.same ∙ c.compare.ensures.only.same) c.judge.ensures.tells))
 
-abbrev all_bytes : List ℕ → List ℕ → Files → ℕ
-all_bytes input rec files = lengths_of (compared_names input rec files) files
+pub returns-in_err-image-clause-taken : goal.returns-in_err-image-clause-taken
+returns-in_err-image-clause-taken g c =
+    let p = err_from_is_err_and c.from_residual.result c.from_residual.ensures.1 in
+    compare_stopped (g.S.Shelf.held c.args.shelf.now) (compared c.args.input.now c.args.rec.now) c.args.offset (compared_bytes c.args.input.now c.args.rec.now) _ _ c.compare.result p.0 c.from_residual.result (search rules) p.1 c.compare.ensures.taken
 
 pub returns-in_err-at-clause-taken : goal.returns-in_err-at-clause-taken
 returns-in_err-at-clause-taken g c =
@@ -35,13 +33,8 @@ returns-in_err-at-clause-taken g c =
     let rec = c.args.rec.now in
     let found = c.in_ok-image.field-0 in
     let p = err_from_is_err_and c.from_residual-in_err-at.result c.from_residual-in_err-at.ensures.1 in
-    takes_stopped h0 _ (all_bytes input rec) (λ _. 2 * word_count found.image) (λ files. 3 * all_bytes input rec files) _ _ _ c.pick_of.result p.0 c.from_residual-in_err-at.result
-    (search rules) p.1 c.compare.ensures.only.same
-    (more_so_far h0 h0 (λ _. 0) (all_bytes input rec) (all_bytes input rec) _ _ _ c.compare.result found (search rules) refl (none_so_far h0 _) c.compare.ensures.taken (λ files told. omega arith))
-    (if_told _ _ (λ _ _. c.pick_of.ensures.taken))
-    (λ files told.
-    let both : compared input rec files ≡ Ok (both_of files found) = found_told h0 both_of (compared input rec) c.compare.result found (search rules) c.compare.ensures.answer files told in
-    omega (arith, compared_room input rec files (known_of files found) (names_of found) both, rip_within input rec files, c.in_ok-image.ensures.count))
+    sealed_stopped h0 (compared input rec) c.args.offset (compared_bytes input rec) _ _ c.pick_of.result p.0 c.from_residual-in_err-at.result (search rules) p.1
+    (compared_sealing h0 _ input rec found c.args.offset _ _ _ c.compare.result c.pick_of.result (search rules) c.compare.ensures.only.same c.compare.ensures.answer c.compare.ensures.taken c.in_ok-image.ensures.count c.pick_of.ensures.taken)
 
 pub returns-clause-taken : goal.returns-clause-taken
 returns-clause-taken g c =
@@ -49,13 +42,8 @@ returns-clause-taken g c =
     let input = c.args.input.now in
     let rec = c.args.rec.now in
     let found = c.in_ok-image.field-0 in
-    takes_so_far h0 (λ files. 3 * all_bytes input rec files) _ _ _
-    (more_so_far h0 _ (all_bytes input rec) (λ _. 2 * word_count found.image) (λ files. 3 * all_bytes input rec files) _ _ _ c.pick_of.result c.in_ok-at.at (search rules) c.compare.ensures.only.same
-    (more_so_far h0 h0 (λ _. 0) (all_bytes input rec) (all_bytes input rec) _ _ _ c.compare.result found (search rules) refl (none_so_far h0 _) c.compare.ensures.taken (λ files told. omega arith))
-    (if_told _ _ (λ _ _. c.pick_of.ensures.taken))
-    (λ files told.
-    let both : compared input rec files ≡ Ok (both_of files found) = found_told h0 both_of (compared input rec) c.compare.result found (search rules) c.compare.ensures.answer files told in
-    omega (arith, compared_room input rec files (known_of files found) (names_of found) both, rip_within input rec files, c.in_ok-image.ensures.count)))
+    sealed_went h0 (compared input rec) c.args.offset (compared_bytes input rec) _ _ c.pick_of.result c.in_ok-at.at c.judge.result (search rules)
+    (compared_sealing h0 _ input rec found c.args.offset _ _ _ c.compare.result c.pick_of.result (search rules) c.compare.ensures.only.same c.compare.ensures.answer c.compare.ensures.taken c.in_ok-image.ensures.count c.pick_of.ensures.taken)
 
 pub returns-in_err-at-clause-only : goal.returns-in_err-at-clause-only
 returns-in_err-at-clause-only g c = reads_twice _ _ _ _ c.compare.ensures.only c.pick_of.ensures.only

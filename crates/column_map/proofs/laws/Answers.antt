@@ -1,5 +1,6 @@
 use Rattle.column_map.proofs.PlaceLaws.{moved-is}
+use Rattle.column_map.proofs.TableWords.{table_words-covered}
 use Rattle.column_map.proofs.laws.Goals as goal
 
 pub returns : goal.returns
-returns c = moved-is
+returns c = record { moves = moved-is; words = table_words-covered }

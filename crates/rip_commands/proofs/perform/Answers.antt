@@ -1,7 +1,7 @@
-use Rattle.std.proofs.Common.{◌≡◌, ◌*◌, ℤ, arith, refl, rules, subst}
+use Rattle.std.proofs.Common.{◌≡◌, ◌*◌, None, ℤ, arith, refl, rules, subst}
 use Rattle.rip_outside.proofs.FilesLaws.{if_told}
 use Rattle.rip_words.specs.Command.{IsTrial}
-use Rattle.rip_words.specs.declared.Command.TheVariants.{Offsets, Register, Repair, Sums, Trial, Verify}
+use Rattle.rip_words.specs.declared.Command.TheVariants.{MatchSums, Offsets, Register, Repair, Sums, Trial, Upgrade, Verify, Join, Split}
 use Rattle.rip_report.specs.declared.status.Status.TheVariants.{Done}
 use Rattle.engine_steps.specs.Outcome.{answered}
 use Rattle.cmd_trial.specs.TrialOutcome.{IsTrialText}
@@ -9,8 +9,29 @@ use Rattle.engine_search.proofs.PickLaws.{offset_kept}
 use Rattle.engine_steps.proofs.CrashingLaws.{safe_none, safe_rests}
 use Rattle.rip_inputs.specs.Opening.{lengths_of, names_read}
 use Rattle.engine_steps.specs.Comparing.{compared_names}
-use Rattle.rip_commands.proofs.RanLaws.{takes_most, takes_nothing}
+use Rattle.cmd_match.specs.MatchOutcome.{matched_names}
+use Rattle.rip_commands.proofs.RanLaws.{takes_most, takes_most_compared, takes_nothing}
 use Rattle.rip_commands.proofs.perform.Goals as goal
+
+pub returns-in-Register-clause-leaves : goal.returns-in-Register-clause-leaves
+returns-in-Register-clause-leaves g c =
+    let read : c.args.command ≡ Register c.as_str.result.now c.as_str-in-Register.result.now c.in-Register.npar = search rules in
+    rw read c.register.ensures.leaves
+
+pub returns-in-Verify-clause-leaves : goal.returns-in-Verify-clause-leaves
+returns-in-Verify-clause-leaves g c =
+    let read : c.args.command ≡ Verify c.as_str-in-Verify.result.now c.as_str-in-Verify-2.result.now c.in-Verify.offset = search rules in
+    rw read c.verify.ensures.leaves
+
+pub returns-in-Repair-clause-leaves : goal.returns-in-Repair-clause-leaves
+returns-in-Repair-clause-leaves g c =
+    let read : c.args.command ≡ Repair c.as_str-in-Repair.result.now c.as_str-in-Repair-2.result.now c.as_str-in-Repair-3.result.now c.in-Repair.offset = search rules in
+    rw read c.repair.ensures.leaves
+
+pub returns-in-Sums-clause-leaves : goal.returns-in-Sums-clause-leaves
+returns-in-Sums-clause-leaves g c =
+    let read : c.args.command ≡ Sums c.as_str-in-Sums.result.now = search rules in
+    rw read c.sums.ensures.leaves
 
 pub returns-in-Offsets-clause-leaves : goal.returns-in-Offsets-clause-leaves
 returns-in-Offsets-clause-leaves g c =
@@ -68,17 +89,45 @@ returns-in-Register-clause-taken g c =
 pub returns-in-Verify-clause-taken : goal.returns-in-Verify-clause-taken
 returns-in-Verify-clause-taken g c =
     let read : c.args.command ≡ Verify c.as_str-in-Verify.result.now c.as_str-in-Verify-2.result.now c.in-Verify.offset = search rules in
-    rw read (takes_most (g.S.Shelf.held c.args.shelf.now) (λ files. 3 * lengths_of (compared_names c.as_str-in-Verify.result.now c.as_str-in-Verify-2.result.now files) files) c.verify.result _ _ c.verify.ensures.taken)
+    rw read (takes_most_compared (g.S.Shelf.held c.args.shelf.now) c.as_str-in-Verify.result.now c.as_str-in-Verify-2.result.now c.in-Verify.offset c.verify.result _ _ c.verify.ensures.taken)
 
 pub returns-in-Offsets-clause-taken : goal.returns-in-Offsets-clause-taken
 returns-in-Offsets-clause-taken g c =
     let read : c.args.command ≡ Offsets c.as_str-in-Offsets.result.now c.as_str-in-Offsets-2.result.now = search rules in
-    rw read (takes_most (g.S.Shelf.held c.args.shelf.now) (λ files. 3 * lengths_of (compared_names c.as_str-in-Offsets.result.now c.as_str-in-Offsets-2.result.now files) files) c.offsets.result _ _ c.offsets.ensures.taken)
+    rw read (takes_most_compared (g.S.Shelf.held c.args.shelf.now) c.as_str-in-Offsets.result.now c.as_str-in-Offsets-2.result.now None c.offsets.result _ _ c.offsets.ensures.taken)
 
 pub returns-in-Repair-clause-taken : goal.returns-in-Repair-clause-taken
 returns-in-Repair-clause-taken g c =
     let read : c.args.command ≡ Repair c.as_str-in-Repair.result.now c.as_str-in-Repair-2.result.now c.as_str-in-Repair-3.result.now c.in-Repair.offset = search rules in
-    rw read (takes_most (g.S.Shelf.held c.args.shelf.now) (λ files. 3 * lengths_of (compared_names c.as_str-in-Repair.result.now c.as_str-in-Repair-2.result.now files) files) c.repair.result _ _ c.repair.ensures.taken)
+    rw read (takes_most_compared (g.S.Shelf.held c.args.shelf.now) c.as_str-in-Repair.result.now c.as_str-in-Repair-2.result.now c.in-Repair.offset c.repair.result _ _ c.repair.ensures.taken)
+
+pub returns-in-Upgrade-clause-crashes : goal.returns-in-Upgrade-clause-crashes
+returns-in-Upgrade-clause-crashes g c =
+    let read : c.args.command ≡ Upgrade c.as_str-in-Upgrade.result.now c.as_str-in-Upgrade-2.result.now = search rules in
+    rw read c.upgrade.ensures.crashes
+
+pub returns-in-Upgrade-clause-leaves : goal.returns-in-Upgrade-clause-leaves
+returns-in-Upgrade-clause-leaves g c =
+    let read : c.args.command ≡ Upgrade c.as_str-in-Upgrade.result.now c.as_str-in-Upgrade-2.result.now = search rules in
+    rw read c.upgrade.ensures.leaves
+
+pub returns-in-Upgrade-clause-taken : goal.returns-in-Upgrade-clause-taken
+returns-in-Upgrade-clause-taken g c =
+    let read : c.args.command ≡ Upgrade c.as_str-in-Upgrade.result.now c.as_str-in-Upgrade-2.result.now = search rules in
+    rw read (takes_most (g.S.Shelf.held c.args.shelf.now) (λ files. 3 * lengths_of (compared_names c.as_str-in-Upgrade.result.now c.as_str-in-Upgrade-2.result.now files) files) c.upgrade.result _ _ c.upgrade.ensures.taken)
+
+pub returns-in-MatchSums-clause-leaves : goal.returns-in-MatchSums-clause-leaves
+returns-in-MatchSums-clause-leaves g c =
+    let read : c.args.command ≡ MatchSums c.as_str-in-MatchSums.result.now c.as_str-in-MatchSums-2.result.now = search rules in
+    rw read c.match_sums.ensures.leaves
+
+pub returns-in-MatchSums-clause-crashes : goal.returns-in-MatchSums-clause-crashes
+returns-in-MatchSums-clause-crashes g c = safe_rests _ _ _ _ c.match_sums.ensures.only.crashes
+
+pub returns-in-MatchSums-clause-taken : goal.returns-in-MatchSums-clause-taken
+returns-in-MatchSums-clause-taken g c =
+    let read : c.args.command ≡ MatchSums c.as_str-in-MatchSums.result.now c.as_str-in-MatchSums-2.result.now = search rules in
+    rw read (takes_most (g.S.Shelf.held c.args.shelf.now) (λ files. 11 * lengths_of (matched_names c.as_str-in-MatchSums.result.now c.as_str-in-MatchSums-2.result.now files) files) c.match_sums.result _ _ c.match_sums.ensures.taken)
 
 pub returns-in-Sums-clause-taken : goal.returns-in-Sums-clause-taken
 returns-in-Sums-clause-taken g c =
@@ -90,3 +139,33 @@ returns-in_ok-trial-in-Trial-clause-taken g c = if_told (g.S.Shelf.held c.args.s
 
 pub returns-in_err-trial-in-Trial-clause-taken : goal.returns-in_err-trial-in-Trial-clause-taken
 returns-in_err-trial-in-Trial-clause-taken g c = if_told (g.S.Shelf.held c.args.shelf.now) _ (λ files told most is. takes_nothing most _ _)
+
+pub returns-in-Split-clause-leaves : goal.returns-in-Split-clause-leaves
+returns-in-Split-clause-leaves g c =
+    let read : c.args.command ≡ Split c.as_str-in-Split.result.now c.as_str-in-Split-2.result.now = search rules in
+    rw read c.split.ensures.leaves
+
+pub returns-in-Split-clause-crashes : goal.returns-in-Split-clause-crashes
+returns-in-Split-clause-crashes g c =
+    let read : c.args.command ≡ Split c.as_str-in-Split.result.now c.as_str-in-Split-2.result.now = search rules in
+    rw read c.split.ensures.crashes
+
+pub returns-in-Split-clause-taken : goal.returns-in-Split-clause-taken
+returns-in-Split-clause-taken g c =
+    let read : c.args.command ≡ Split c.as_str-in-Split.result.now c.as_str-in-Split-2.result.now = search rules in
+    rw read (takes_most (g.S.Shelf.held c.args.shelf.now) (λ files. 3 * lengths_of (names_read c.as_str-in-Split.result.now files) files) c.split.result _ _ c.split.ensures.taken)
+
+pub returns-in-Join-clause-leaves : goal.returns-in-Join-clause-leaves
+returns-in-Join-clause-leaves g c =
+    let read : c.args.command ≡ Join c.as_str-in-Join.result.now c.as_str-in-Join-2.result.now = search rules in
+    rw read c.join.ensures.leaves
+
+pub returns-in-Join-clause-crashes : goal.returns-in-Join-clause-crashes
+returns-in-Join-clause-crashes g c =
+    let read : c.args.command ≡ Join c.as_str-in-Join.result.now c.as_str-in-Join-2.result.now = search rules in
+    rw read c.join.ensures.crashes
+
+pub returns-in-Join-clause-taken : goal.returns-in-Join-clause-taken
+returns-in-Join-clause-taken g c =
+    let read : c.args.command ≡ Join c.as_str-in-Join.result.now c.as_str-in-Join-2.result.now = search rules in
+    rw read (takes_most (g.S.Shelf.held c.args.shelf.now) (λ files. 3 * lengths_of (names_read c.as_str-in-Join.result.now files) files) c.join.result _ _ c.join.ensures.taken)

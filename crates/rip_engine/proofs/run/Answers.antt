@@ -1,5 +1,6 @@
 use Rattle.rip_engine.specs.Seen.{seen}
 use Rattle.rip_words.specs.Command.{command_reading, texts}
+use Rattle.rip_engine.proofs.AgainLaws.{read_again}
 use Rattle.rip_engine.proofs.StoredLaws.{stored_by}
 use Rattle.rip_engine.proofs.Headline.{finds_damaged_of, repairs_of}
 use Rattle.rip_engine.proofs.Ending.{decides, decides_without_files, read_has_cause, write_has_cause, sink_has_cause, memory_keeps, nothing_written, takes, trial_leaves, completes, done_told}
@@ -38,6 +39,9 @@ returns-clause-repairs g c = repairs_of (command_reading (texts c.args.words.now
 
 pub returns-clause-finds_damaged : goal.returns-clause-finds_damaged
 returns-clause-finds_damaged g c = finds_damaged_of (command_reading (texts c.args.words.now)) (seen g.F.Shelf g.K.Sink c.args.files.now c.args.out.now) (seen g.F.Shelf g.K.Sink c.tell_words-told.new.shelf c.print.new.out) c.print.result (returns-clause-outcome g c) (returns-clause-completes g c) (returns-clause-repairs g c)
+
+pub returns-clause-reads_again : goal.returns-clause-reads_again
+returns-clause-reads_again g c = read_again (command_reading (texts c.args.words.now)) (seen g.F.Shelf g.K.Sink c.args.files.now c.args.out.now) (seen g.F.Shelf g.K.Sink c.tell_words-told.new.shelf c.print.new.out) c.print.result (returns-clause-outcome g c) (λ is. c.tell_words-told.ensures.names (done_told c.tell_words-told.result _ _ _ _ c.print.result c.print.ensures is))
 
 pub returns-clause-bytes_taken : goal.returns-clause-bytes_taken
 returns-clause-bytes_taken g c = takes (command_reading (texts c.args.words.now)) (seen g.F.Shelf g.K.Sink c.args.files.now c.args.out.now) (seen g.F.Shelf g.K.Sink c.tell_words-told.new.shelf c.print.new.out) c.tell_words-told.result c.print.result c.tell_words-told.ensures.ran c.print.ensures

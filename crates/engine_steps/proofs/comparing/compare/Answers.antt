@@ -73,8 +73,8 @@ returns-clause-answer g c =
     let stored = stored_of c.in_ok-stored.stored in
     let sectors : toc.sectors ≡ c.in_ok-rip.shape = sym c.in_ok-rip.ensures.shape in
     let own : name ≡ c.in_ok-name.name = sym c.in_ok-name.ensures in
-    let result : Result Compared Stop = Ok record { image = rip.image; shape = c.in_ok-rip.shape; parity = c.in_ok-stored.stored.parity; names = rip.names; rec = c.in_ok-name.name } in
-    let made : Files → ℕ → List ℕ → Result (Known × List (List ℕ)) Status = λ files s n. Ok (record { sectors = s; words = joined_words rip.image files; count = stored.count; stored = stored.rows }, rip.names ++ n ∷ []) in
+    let result : Result Compared Stop = Ok record { layout = rip.layout; image = rip.image; shape = c.in_ok-rip.shape; parity = c.in_ok-stored.stored.parity; seal = c.in_ok-stored.stored.seal; names = rip.names; rec = c.in_ok-name.name } in
+    let made : Files → ℕ → List ℕ → Result (Known × List (List ℕ)) Status = λ files s n. Ok (record { sectors = s; words = joined_words rip.image files; count = stored.count; stored = stored.rows; seal = stored.seal }, rip.names ++ n ∷ []) in
     passed (λ files (found : Rip × Shape). opened_of found.0 files) both_of (measured c.args.input.now) (found rec) h0 c.open_measured.result (rip, c.in_ok-rip.shape) result
     (search rules) c.open_measured.ensures.answer
     (passed (λ _. stored_of) both_of (recorded name) (λ files. alike rec (opened_of rip files)) h0 c.find_record.result c.in_ok-stored.stored result
@@ -133,7 +133,7 @@ returns-clause-taken g c =
     let name = record_name_of rec (toc_of rip.layout) in
     let named : c.as_str.result.now ≡ name = search rules in
     let view : Files → Rip × Shape → Opened = λ files found. opened_of found.0 files in
-    let result : Result Compared Stop = Ok record { image = rip.image; shape = c.in_ok-rip.shape; parity = c.in_ok-stored.stored.parity; names = rip.names; rec = c.in_ok-name.name } in
+    let result : Result Compared Stop = Ok record { layout = rip.layout; image = rip.image; shape = c.in_ok-rip.shape; parity = c.in_ok-stored.stored.parity; seal = c.in_ok-stored.stored.seal; names = rip.names; rec = c.in_ok-name.name } in
     takes_so_far h0 (all_bytes input rec) _ _ result
     (more_so_far h0 _ (rip_bytes input) (λ files. length (bytes_at name files)) (all_bytes input rec) _ _ _ c.find_record.result c.in_ok-stored.stored (search rules) c.open_measured.ensures.only.same
     (more_so_far h0 h0 (λ _. 0) (rip_bytes input) (rip_bytes input) _ _ _ c.open_measured.result (rip, c.in_ok-rip.shape) (search rules) refl (none_so_far h0 _) c.open_measured.ensures.taken (λ files told. omega arith))

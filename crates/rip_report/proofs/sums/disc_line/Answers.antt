@@ -3,8 +3,9 @@ use Rattle.std.specs.Prelude.{codes}
 use Rattle.std.specs.Fmt.{decimal, digits_output, styled_decimal, styled_digits_output}
 use Rattle.std.proofs.lemmas.Result.{IfOk-weaker}
 use Rattle.disc_toc.specs.Toc.{toc_of}
-use Rattle.rip_report.specs.Sums.{disc_line, eight_hex, with_zeros}
-use Rattle.rip_report.proofs.SumLaws.{hex_shown, zeros_before, three_shown}
+use Rattle.accurip_match.specs.Name.{eight_hex, with_zeros}
+use Rattle.rip_report.specs.Sums.{disc_line}
+use Rattle.accurip_match.proofs.NameLaws.{hex_shown, zeros_before, three_shown}
 use Rattle.rip_report.proofs.sums.disc_line.Goals as goal
 
 pub returns : goal.returns

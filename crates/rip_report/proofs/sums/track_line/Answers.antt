@@ -2,8 +2,10 @@ use Rattle.std.proofs.Common.{◌≡◌, ◌∙◌, ap, string_bytes}
 use Rattle.std.specs.Prelude.{codes}
 use Rattle.std.specs.Fmt.{decimal, digits_output, styled_decimal, styled_digits_output}
 use Rattle.std.proofs.lemmas.Result.{IfOk-weaker}
-use Rattle.rip_report.specs.Sums.{track_line, with_zeros}
-use Rattle.rip_report.proofs.SumLaws.{hex_shown, zeros_before, two_shown}
+use Rattle.accurip_match.specs.Name.{with_zeros}
+use Rattle.rip_report.specs.Sums.{track_line}
+use Rattle.accurip_match.proofs.NameLaws.{hex_shown, zeros_before}
+use Rattle.rip_report.proofs.SumLaws.{two_shown}
 use Rattle.rip_report.proofs.sums.track_line.Goals as goal
 
 pub returns : goal.returns

@@ -1,0 +1,9 @@
+pub mod ListedLaws
+pub mod MatchLaws
+pub mod NameLaws
+pub mod OffsetLaws
+pub mod PickingLaws
+pub mod PrefixLaws
+pub mod ResponseLaws
+pub mod SliderLaws
+pub mod TrackLaws

@@ -1,0 +1,4 @@
+pub mod MatchedLaws
+pub mod MovedLaws
+pub mod SpanLaws
+pub mod StopLaws

@@ -1,0 +1,2 @@
+pub mod MatchOutcome
+pub mod Span

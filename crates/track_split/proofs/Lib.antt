@@ -1,0 +1,9 @@
+pub mod ClearLaws
+pub mod DigitLaws
+pub mod EntryLaws
+pub mod SheetLaws
+pub mod BackLaws
+pub mod WritingLaws
+pub mod CutPlaceLaws
+pub mod LayoutLaws
+pub mod NameLaws
