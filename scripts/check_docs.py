@@ -11,6 +11,7 @@
 `check_docs.py PROGRAM` runs that program; else the one that `scripts/rip` built. Ends with 0 only if all is so.
 """
 
+import hashlib
 import random
 import re
 import shutil
@@ -39,6 +40,9 @@ ANSWERS = [
     ("repair second.wav disc.rpar out.wav", 0),
     ("sums rips/disc.cue", 0),
     ("match rips/disc.cue responses/", 0),
+    ("upgrade disc.wav old.rpar", 0),
+    ("split rips/disc.cue tracks/", 0),
+    ("join rips/disc.cue joined.wav", 0),
     ("trial 100 7 -17 4", 0),
     ("trial 100 7 -17 47041", 0),
     ("trial 30 7 0 0", 0),
@@ -62,11 +66,13 @@ ANSWERS = [
     ("register disc.wav disc.rpar", 17),
     ("repair second.wav.part disc.rpar second.wav", 17),
     ("verify short.wav disc.rpar", 18),
+    ("upgrade disc.wav old.rpar", 19),
     ("verify rips/both.cue disc.rpar", 18),
     ("verify other.wav disc.rpar", 20),
     ("verify silent.wav silent.rpar", 21),
     ("verify other.wav disc.rpar --offset=0", 22),
     ("verify second.wav disc.rpar", 23),
+    ("verify silent.wav other.rpar --offset=0", 24),
     ("match disc.wav responses/", 25),
     ("match disc.wav disc.wav", 26),
     ("match disc.wav disc.flac", 26),
@@ -106,10 +112,18 @@ def second_rip(disc):
 SHEET = 'FILE "01.wav" WAVE\n  TRACK 01 AUDIO\n    INDEX 01 00:00:00\nFILE "02.wav" WAVE\n  TRACK 02 AUDIO\n    INDEX 01 00:00:00\n'
 
 
-def make_files(folder, audio):
-    """The files of the examples: a disc of 21 minutes, a later rip of it, a disc of two files and a sheet, with a response, and a
-    folder."""
+def signed(body):
+    return bytes(body) + hashlib.sha256(body).digest()
+
+
+def make_files(program, folder, audio):
+    """The files of the examples: a disc of 21 minutes, a record of it without a seal, a later rip of it, a disc of two files and a
+    sheet, with a response, and a folder."""
     (folder / "disc.wav").write_bytes(wav(audio))
+    subprocess.run([program, "register", "disc.wav", "old.rpar"], cwd=folder, capture_output=True, check=True)
+    sealed = bytearray((folder / "old.rpar").read_bytes())
+    sealed[7] = ord("1")
+    (folder / "old.rpar").write_bytes(signed(sealed[:-64]))
     (folder / "second.wav").write_bytes(wav(second_rip(audio)))
     chance = random.Random(2)
     rips = folder / "rips"
@@ -145,12 +159,20 @@ def make_refused_files(folder, audio):
     (folder / "disc.flac").write_bytes(b"fLaC\0\0\0\x22" + bytes(34))
     (folder / "cut.wav").write_bytes(wav(bytes(SECTOR_BYTES))[:-1])
     (folder / "second.wav.part").write_bytes((folder / "disc.wav").read_bytes())
+    (folder / "tracks").mkdir()
     rips = folder / "rips"
     (rips / "data.cue").write_text(SHEET.replace("TRACK 01 AUDIO", "TRACK 01 MODE1/2352"))
     (rips / "late.cue").write_text(SHEET.replace("00:00:00", "00:03:26", 1))
     one = 'FILE "01.wav" WAVE\nTRACK 01 AUDIO\nINDEX 01 00:01:00\nTRACK 02 AUDIO\nINDEX 01 00:01:00\n'
     (rips / "order.cue").write_text(one)
     (rips / "both.cue").write_text('FILE "../disc.wav" WAVE\nTRACK 01 AUDIO\nINDEX 01 00:00:00\nTRACK 02 AUDIO\nINDEX 01 00:01:00\n')
+
+
+def change_seal(folder):
+    """The record of the silent disc, with another seal."""
+    record = bytearray((folder / "silent.rpar").read_bytes())
+    record[-40] ^= 1
+    (folder / "other.rpar").write_bytes(signed(record[:-32]))
 
 
 def damage_record(folder):
@@ -205,7 +227,7 @@ def check_sessions(name, program, work, audio):
     commands = sessions((TOP / name).read_text())
     folder = work / name.replace("/", "_")
     folder.mkdir()
-    make_files(folder, audio)
+    make_files(program, folder, audio)
     sh = shell(program, folder)
     for command, wanted in commands:
         found = told(sh, command)
@@ -223,7 +245,7 @@ def check_page(program, work, audio):
     examples = text.split(".SH EXAMPLES")[1].split(".nf")[1].split(".fi")[0].strip().splitlines()
     folder = work / "page"
     folder.mkdir()
-    make_files(folder, audio)
+    make_files(program, folder, audio)
     (folder / "store").mkdir()
     for line in examples:
         words = line.replace("\\-", "-").split()[1:]
@@ -280,7 +302,7 @@ def check_answers(program, work, audio):
     met = {name: set() for name in tables}
     folder = work / "answers"
     folder.mkdir()
-    make_files(folder, audio)
+    make_files(program, folder, audio)
     make_refused_files(folder, audio)
     for words, wanted in ANSWERS:
         number, lines = answer(program, folder, words)
@@ -293,6 +315,8 @@ def check_answers(program, work, audio):
             met[name].add(at)
         if words == "register disc.wav disc.rpar" and wanted == 0:
             damage_record(folder)
+        if words == "register silent.wav silent.rpar":
+            change_seal(folder)
     for name, table in tables.items():
         for at, (number, text, _) in enumerate(table):
             if at not in met[name] and number not in NOT_CAUSED:
