@@ -182,7 +182,7 @@ def others(disc, audio, folder):
 
 def long_disc(program, folder):
     chance = random.Random(13)
-    disc = chance.randbytes(LONG * SECTOR_BYTES)
+    disc = b"".join(chance.randbytes(1_000 * SECTOR_BYTES) for _ in range(LONG // 1_000))
     wav(folder / "disc.wav", disc)
     wav(folder / "late.wav", late(disc))
     print(f"{LONG} sectors:")

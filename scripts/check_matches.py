@@ -20,7 +20,9 @@ import response_matches as response
 from expected_cases import header
 
 OFFSETS = 50
+# the sectors of each track of these discs, and as many others by chance
 DISCS = [[40], [5], [31, 6], [12, 1, 40], [3, 20, 7, 2], [2, 2, 2]]
+OTHERS = 14
 
 
 def sheet_of(starts):
@@ -69,8 +71,9 @@ def check_disc(chance, lengths, program):
 def main():
     program = str(Path(sys.argv[1]).resolve()) if len(sys.argv) > 1 else None
     chance = random.Random(int(sys.argv[2]) if len(sys.argv) > 2 else 17)
-    found = sum(check_disc(chance, lengths, program) for lengths in DISCS)
-    print(f"{len(DISCS)} discs, {found} matches: " + ("printed as the definitions give them" if program else "the definitions agree"))
+    discs = DISCS + [[chance.randint(1, 40) for _ in range(chance.randint(1, 6))] for _ in range(OTHERS)]
+    found = sum(check_disc(chance, lengths, program) for lengths in discs)
+    print(f"{len(discs)} discs, {found} matches: " + ("printed as the definitions give them" if program else "the definitions agree"))
 
 
 if __name__ == "__main__":

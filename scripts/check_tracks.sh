@@ -1,7 +1,7 @@
 #!/bin/sh
 # The life of a disc that is kept in tracks: it is registered in a folder of records, one track's file is damaged later, the rip is
 # mended, split into tracks again, joined, and verified by the record. The mended tracks are the first ones, byte for byte, and all
-# sheets have the same ids and sums. cuetools and shntool, where they are there, read the written sheets as it does.
+# sheets have the same ids and sums. cuetools, shntool and whipper, where they are there, read the written sheets as it does.
 # The script ends with 0 only if all is so. PROGRAM is the first word, else the one that `scripts/rip` built.
 set -eu
 here=$(CDPATH= cd -- "$(dirname -- "$0")" && pwd)
@@ -106,4 +106,29 @@ if command -v shnsplit > /dev/null; then
     echo "shntool: cuts the file so"
 else
     echo "shntool: skipped"
+fi
+# whipper's reader of sheets: each track's number, file and start in sectors.
+if /usr/bin/python3 -c 'import whipper.image.cue' 2> /dev/null; then
+    /usr/bin/python3 - > text 2> /dev/null << 'END'
+from whipper.image.cue import CueFile
+
+for name in ("back/disc.cue", "again.wav.cue"):
+    sheet = CueFile(name)
+    sheet.parse()
+    for track in sheet.table.tracks:
+        start = track.getIndex(1)
+        print(track.number, start.path, start.relative)
+END
+    cat > lines << 'END'
+1 track01.wav 33
+2 track02.wav 0
+3 track03.wav 0
+1 again.wav 33
+2 again.wav 180
+3 again.wav 440
+END
+    cmp -s lines text || fail "whipper reads: $(cat text)"
+    echo "whipper: reads the sheets so"
+else
+    echo "whipper: skipped"
 fi
