@@ -12,6 +12,7 @@
 """
 
 import hashlib
+import os
 import random
 import re
 import shutil
@@ -43,12 +44,24 @@ ANSWERS = [
     ("upgrade disc.wav old.rpar", 0),
     ("split rips/disc.cue tracks/", 0),
     ("join rips/disc.cue joined.wav", 0),
+    ("register disc.wav store/", 0),
+    ("register second.wav others/", 0),
+    ("list store/", 0),
+    ("check store/", 0),
+    ("merge store/ copies/", 0),
+    ("merge store/ copies/", 0),
+    ("merge store/ others/", 0),
+    ("merge bad/ copies/", 0),
     ("trial 100 7 -17 4", 0),
     ("trial 100 7 -17 47041", 0),
     ("trial 30 7 0 0", 0),
     ("", 10),
     ("verify disc.wav", 10),
     ("verify disc.wav disc.rpar --offset=5880", 10),
+    ("list store", 10),
+    ("check store/ -", 10),
+    ("merge store/", 10),
+    ("merge store/ copies/ --offset=0", 10),
     ("sums gone.wav", 11),
     ("sums gone.cue", 11),
     ("sums rips/data.cue", 12),
@@ -76,7 +89,9 @@ ANSWERS = [
     ("match disc.wav responses/", 25),
     ("match disc.wav disc.wav", 26),
     ("match disc.wav disc.flac", 26),
+    ("check bad/", 27),
     ("sums rips", 30),
+    ("list strange/", 30),
     ("register disc.wav none/disc.rpar", 31),
     ("sums disc.wav > /dev/full", 32),
     ("sums \xff", 33),
@@ -159,13 +174,25 @@ def make_refused_files(folder, audio):
     (folder / "disc.flac").write_bytes(b"fLaC\0\0\0\x22" + bytes(34))
     (folder / "cut.wav").write_bytes(wav(bytes(SECTOR_BYTES))[:-1])
     (folder / "second.wav.part").write_bytes((folder / "disc.wav").read_bytes())
-    (folder / "tracks").mkdir()
+    for name in ("tracks", "store", "others", "copies", "bad", "strange"):
+        (folder / name).mkdir()
+    make_bad_records(folder)
     rips = folder / "rips"
     (rips / "data.cue").write_text(SHEET.replace("TRACK 01 AUDIO", "TRACK 01 MODE1/2352"))
     (rips / "late.cue").write_text(SHEET.replace("00:00:00", "00:03:26", 1))
     one = 'FILE "01.wav" WAVE\nTRACK 01 AUDIO\nINDEX 01 00:01:00\nTRACK 02 AUDIO\nINDEX 01 00:01:00\n'
     (rips / "order.cue").write_text(one)
     (rips / "both.cue").write_text('FILE "../disc.wav" WAVE\nTRACK 01 AUDIO\nINDEX 01 00:00:00\nTRACK 02 AUDIO\nINDEX 01 00:01:00\n')
+
+
+def make_bad_records(folder):
+    """A store of which no record is good, and a folder that can't be listed."""
+    record = bytearray((folder / "old.rpar").read_bytes())
+    (folder / "bad" / "misnamed.rpar").write_bytes(record)
+    record[1_000] ^= 1
+    (folder / "bad" / "torn.rpar").write_bytes(record)
+    (folder / "bad" / "none.rpar").write_bytes(b"")
+    (folder / "strange" / os.fsdecode(b"\xff.rpar")).write_bytes(b"")
 
 
 def change_seal(folder):

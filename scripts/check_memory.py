@@ -1,5 +1,5 @@
 #!/usr/bin/env python3
-"""Runs each command on small inputs, with each allocation refused in turn, and sees what stands then.
+"""Runs most commands on small inputs, with each allocation refused in turn, and sees what stands then.
 
 For each number N the program is run with its Nth allocation refused, and again with that and all later ones. The
 program has to end by itself, and then
@@ -76,6 +76,9 @@ COMMANDS = [
     "offsets second.wav disc.rpar",
     "sums rips/disc.cue",
     "sums store",
+    "list store/",
+    "check store/",
+    "merge store/ more/",
     "trial 30 7 0 0",
     "trial 100 7 -17 4",
 ]
@@ -89,7 +92,8 @@ def wav(audio):
 
 
 def make_files(folder, program):
-    """A disc of 100 sectors and its record, a rip of it that is 17 samples late and has a wrong word, and a sheet."""
+    """A disc of 100 sectors and its record, a rip of it that is 17 samples late and has a wrong word, a sheet, and two stores, of
+    which one has a good and two bad records and the other none."""
     audio = random.Random(4).randbytes(100 * SECTOR_BYTES)
     late = bytearray(bytes(17 * 4) + audio[: -17 * 4])
     late[100_000] ^= 1
@@ -101,7 +105,11 @@ def make_files(folder, program):
     (folder / "rips" / "02.wav").write_bytes(wav(audio[40 * SECTOR_BYTES :]))
     tracks = "".join(f'FILE "0{n}.wav" WAVE\nTRACK 0{n} AUDIO\nINDEX 01 00:00:00\n' for n in (1, 2))
     (folder / "rips" / "disc.cue").write_text(tracks)
-    subprocess.run([program, "register", "disc.wav", "disc.rpar"], cwd=folder, check=True, capture_output=True)
+    for rec in ("disc.rpar", "store/"):
+        subprocess.run([program, "register", "disc.wav", rec], cwd=folder, check=True, capture_output=True)
+    shutil.copyfile(folder / "disc.rpar", folder / "store" / "misnamed.rpar")
+    (folder / "store" / "none.rpar").write_bytes(b"")
+    (folder / "more").mkdir()
 
 
 def held(folder):

@@ -6,8 +6,8 @@
     .. --search CASE                           decides the searches of the case of this name too, some minutes each
 
 Decided are the words of the command line, what the readers of sheets, WAV files, layouts, records and responses refuse,
-the records that are stored, and the matches with responses. Sums, trials and other searches are passed over, and a case
-is left at a call that fails.
+the records that are stored, the upkeep of stores, and the matches with responses. Sums, trials and other searches are
+passed over, and a case is left at a call that fails.
 """
 
 import base64
@@ -133,6 +133,9 @@ COMMANDS = {
     "match": ([is_name] * 2, None),
     "split": ([is_name, is_folder], None),
     "join": ([is_name, is_joined], None),
+    "list": ([is_folder], None),
+    "check": ([is_folder], None),
+    "merge": ([is_folder] * 2, None),
     "sums": ([is_name], None),
     "trial": ([is_number(4, 30, 9000), is_number(10, 0, 2**32 - 1), is_offset, is_number(5, 0, 58800)], None),
 }
@@ -481,6 +484,58 @@ def search_answer(command, audio, record, tracks, offset, rest, files):
     return 0, f"{line}\nwritten {rest[2]}"
 
 
+# Stores.
+
+
+def entries_of(files, folder):
+    """The names of the records that stand directly in a folder, in the order of their bytes."""
+    names = [name for name in files if name.startswith(folder) and name.endswith(".rpar") and "/" not in name[len(folder) :]]
+    return sorted(names, key=str.encode)
+
+
+def fault_of(files, folder, name):
+    """Why an entry is bad, or nothing where it is good."""
+    kept = record_layout(files[name])
+    if isinstance(kept, str):
+        return f"record {kept}"
+    key = store_key(kept)
+    return "" if name == f"{folder}{key}.rpar" else f"misnamed {key}"
+
+
+def record_line(file, name):
+    _, starts, sectors = record_layout(file)
+    version = 2 if file[:8] == b"RIPPAR02" else 1
+    return f"{name} version {version} npar {struct.unpack_from('<H', file, 8)[0]} sectors {sectors} tracks {len(starts)}"
+
+
+def fate_of(files, folder, to, name):
+    """What becomes of an entry that is merged, and the name that tells it."""
+    out = to + name[len(folder) :]
+    if fault_of(files, folder, name):
+        return "skipped", name
+    if out not in files:
+        return "added", out
+    return ("same" if files[out] == files[name] else "differs"), out
+
+
+def upkeep_answer(files, command, folder, to):
+    """The answer of `list`, `check` or `merge`."""
+    names = entries_of(files, folder)
+    if command == "list":
+        return 0, "\n".join(record_line(files[name], name) for name in names if not fault_of(files, folder, name))
+    if command == "check":
+        bad = [f"{name} {fault_of(files, folder, name)}" for name in names if fault_of(files, folder, name)]
+        return (27 if bad else 0), "\n".join([*bad, f"checked {len(names)} bad {len(bad)}"])
+    fates = [fate_of(files, folder, to, name) for name in names]
+    for name, (fate, out) in zip(names, fates):
+        if fate == "added":
+            files[out] = files[name]
+            files.pop(out + ".part", None)
+    added, same, differs, skipped = ([fate for fate, _ in fates].count(fate) for fate in ("added", "same", "differs", "skipped"))
+    counts = f"merged {added} same {same} differs {differs} skipped {skipped}"
+    return 0, "\n".join([*(f"{fate} {name}" for fate, name in fates), counts])
+
+
 # Commands.
 
 
@@ -586,6 +641,8 @@ def answer(files, words, is_searched):
     command, *rest = words
     if command == "trial":
         raise Undecided
+    if command in ("list", "check", "merge"):
+        return upkeep_answer(files, command, rest[0], rest[-1])
     layout, parts, names = opened(files, rest[0])
     if command == "sums":
         raise Undecided
@@ -635,12 +692,13 @@ def printed(files, line, is_searched):
         status, text = refused.args
     except Undecided:
         return None
-    whole = text.encode() + b"\n"
+    lines = text.split("\n") if text else []
+    whole = "".join(f"{told}\n" for told in lines).encode()
     if len(whole) > ROOM:
         status, whole = 32, whole[:ROOM]
     if len(whole) > 1000:
         return [line, f"status {status}", f"{len(whole)} bytes {hashlib.sha256(whole).hexdigest()}"]
-    return [line, f"status {status}", *text.split("\n")]
+    return [line, f"status {status}", *lines]
 
 
 def followed(script, searched):

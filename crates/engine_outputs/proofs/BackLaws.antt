@@ -21,7 +21,8 @@ use Rattle.wav_frames.specs.Opening.{IsPlain}
 use Rattle.wav_frames.specs.Wav.{wav_bytes}
 use Rattle.rip_inputs.specs.Opening.{IsReadAs, Opened, behind, disc_sheet, folder_of, is_sheet, is_slash, name_behind, sheet_opened, text_opened, wavs_opened}
 use Rattle.rip_inputs.proofs.RipLaws.{rip_read}
-use Rattle.rip_words.specs.FileNames.{breaks_quotes, ends_in_slash, is_quotable, name_in_folder}
+use Rattle.rip_basics.specs.FileNames.{ends_in_slash}
+use Rattle.rip_words.specs.FileNames.{breaks_quotes, is_quotable, name_in_folder}
 use Rattle.track_split.specs.Cuts.{cut_words, piece_words}
 use Rattle.track_split.specs.Sheets.{entry_lines, file_line, join_lines, join_text, joined_lines, later_lines, split_lines, split_text, text_of_lines, track_file}
 use Rattle.track_split.specs.Tracks.{join_names, join_outputs, split_names, split_outputs}

@@ -123,10 +123,10 @@ named_other name [] words sheet other = tt
 named_other name (first ∷ names) [] sheet other = (All-head (λ later. later ≢ name) first names other, tt)
 named_other name (first ∷ names) (w ∷ words) sheet other = (All-head (λ later. later ≢ name) first names other, named_other name names words sheet (All-tail (λ later. later ≢ name) first names other))
 
-pairs_tail : (first : List ℕ) (names : List (List ℕ)) → AllPairs (λ earlier later. later ≢ earlier) (first ∷ names) → AllPairs (λ earlier later. later ≢ earlier) names
+pub pairs_tail : (first : List ℕ) (names : List (List ℕ)) → AllPairs (λ earlier later. later ≢ earlier) (first ∷ names) → AllPairs (λ earlier later. later ≢ earlier) names
 pairs_tail first names distinct i j d low below = distinct (suc i) (suc j) d (omega arith) (omega arith)
 
-pairs_head : (first : List ℕ) (names : List (List ℕ)) → AllPairs (λ earlier later. later ≢ earlier) (first ∷ names) → All (λ later. later ≢ first) names
+pub pairs_head : (first : List ℕ) (names : List (List ℕ)) → AllPairs (λ earlier later. later ≢ earlier) (first ∷ names) → All (λ later. later ≢ first) names
 pairs_head first names distinct k d below = distinct zero (suc k) d (omega arith) (omega arith)
 
 pub named_fresh : (names words : List (List ℕ)) (sheet : List ℕ) (files : Files) → AllPairs (λ earlier later. later ≢ earlier) names → All (λ out. get files out ≡ None) names → AreFresh (files_named names words sheet) files

@@ -3,12 +3,12 @@ use crate::made::{late, wav};
 use crate::mending::wrong;
 use rip_engine::run;
 use rip_memory::{MemoryShelf, MemorySink, fill};
-use rip_outside::Shelf;
+use rip_outside::Folder;
 use std::alloc::Global;
 use std::test::Fail;
 
 // Runs the words of a line, which single blanks part, and tells the number with which the run ends.
-pub fn number_of<S: Shelf>(alloc: Global, files: &mut S, line: &str) -> Result<u8, Fail> {
+pub fn number_of<F: Folder>(alloc: Global, files: &mut F, line: &str) -> Result<u8, Fail> {
     let mut words = Vec::new(alloc);
     for word in line.split(' ') {
         words.push(String::from_str(alloc, word)?)?;

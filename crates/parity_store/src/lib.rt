@@ -14,7 +14,7 @@ ghost use Rattle.parity_store.specs.Reading.{IsStorable, Stored, record_reading}
 ghost use Rattle.parity_store.specs.Record.{record_bytes_of};
 
 pub use finding::{FindFail, find};
-pub use naming::{id_text, record_name};
+pub use naming::{id_text, record_name, stored_name};
 pub use reading::{RecordFail, RecordKind, read_record};
 pub use record::{Parity, Record, record_bytes};
 pub use storing::{PutFail, put, replace};

@@ -3,6 +3,7 @@
 #![tactic(auto)]
 
 mod file_state;
+mod folder;
 mod known_names;
 mod reading;
 mod real_shelf;

@@ -1,47 +1,25 @@
 // Real files.
-ghost use Rattle.std.specs.Prelude.{◌≡◌, ◌↔◌, ℕ, List, None, IsTrue, OnOk, OnErr, IfOk, IsOk, Ok, IsErr, IsErrOf, IsSome, IfSome, is_none};
+ghost use Rattle.std.specs.Prelude.{◌≡◌, ◌↔◌, ℕ, List, All, None, true, IsTrue, OnOk, OnErr, IfOk, IsOk, Ok, IsErr, IsErrOf, IsSome, IfSome, is_none};
 ghost use Rattle.std.specs.Option.{IsSomeAnd};
+ghost use Rattle.std.specs.Ordering.{nat_cmp};
+ghost use Rattle.std.specs.Cmp.Lexicographic.{slice_cmp};
+ghost use Rattle.std.specs.List.Sorted.{IsStrictlySortedBy};
 ghost use Rattle.std.specs.String.{string_bytes};
 ghost use Rattle.rip_outside.specs.Causes.{HasCause};
 ghost use Rattle.rip_outside.specs.Crashes.Outlook.{Untold};
 ghost use Rattle.rip_outside.specs.Counts.{count_of};
+ghost use Rattle.rip_outside.specs.Listing.{stands_in};
 
+use crate::folder::{list_files, size_of};
 use crate::known_names::KnownNames;
 use crate::reading::{Reading, see_as_it_was};
 use crate::words::print_failure;
 use crate::writing::{Writing, sync_names};
-use rip_outside::{Counts, Fault, Shelf, ShelfCall, ShelfFail};
+use rip_outside::{Counts, Fault, Folder, Names, Shelf, ShelfCall, ShelfFail};
 use std::alloc::Global;
 use std::fs::File;
-use std::io::{Eprint, ErrorKind};
+use std::io::{self, Eprint, ErrorKind};
 use std::rt::Files;
-use std::{fs, io};
-
-// The length that is told of a folder, a pipe or a device, which have none: that of a block, so that whoever asks for it
-// begins to read, which fails.
-const LENGTH_OF_NO_FILE: u64 = 4096;
-
-// Whether an error says that no file can have the name.
-fn tells_missing(kind: ErrorKind) -> bool {
-    matches!(
-        kind,
-        ErrorKind::NotFound | ErrorKind::NotADirectory | ErrorKind::InvalidFilename
-    )
-}
-
-// The length of a file, or None where the name isn't held.
-fn size_of<R: Files>(rt: &R, name: &str) -> io::Result<Option<u64>> {
-    // No file has such a name.
-    if name.as_bytes().contains(&0) {
-        return Ok(None);
-    }
-    match fs::metadata(rt, name) {
-        Ok(found) if found.is_file() => Ok(Some(found.len())),
-        Ok(_) => Ok(Some(LENGTH_OF_NO_FILE)),
-        Err(error) if tells_missing(error.kind()) => Ok(None),
-        Err(error) => Err(error),
-    }
-}
 
 /// The files that a runtime reaches, whose bytes aren't told. A name is a path. Each call that
 /// fails is counted by its kind, and told in a line of standard error.
@@ -100,19 +78,20 @@ impl<R: Files<File = File> + Eprint> RealShelf<'_, R> {
     }
 
     // The same where want of memory, which has changed nothing, is told apart.
-    fn counted_or_oom(
+    fn counted_or_oom<T>(
         &mut self,
         call: ShelfCall,
         name: &str,
-        done: io::Result<()>,
-    ) -> Result<(), ShelfFail>
+        done: io::Result<T>,
+    ) -> Result<T, ShelfFail>
+        ensures value { IfOk result (λ value. done ≡ Ok value) }
         ensures done { IsOk result ↔ IsOk done }
         ensures known { self.new.known ≡ self.old.known }
         ensures cause { HasCause call (count_of self.old.faults) (count_of self.new.faults) (IsErrOf result ShelfFail.Failed) }
         ensures taken { self.new.taken ≡ self.old.taken }
     {
         match done {
-            Ok(()) => Ok(()),
+            Ok(value) => Ok(value),
             Err(error) if error.kind() == ErrorKind::OutOfMemory => Err(ShelfFail::Oom),
             Err(error) => {
                 print_failure(self.rt, self.alloc, name, &error);
@@ -297,4 +276,17 @@ impl<R: Files<File = File> + Eprint> Shelf for RealShelf<'_, R> {
     }
 
     ghost tells_held = { λ _. tt };
+}
+
+impl<R: Files<File = File> + Eprint + AllocGlobal> Folder for RealShelf<'_, R> {
+    fn list(&mut self, alloc: Global, folder: &str) -> Result<Names, ShelfFail>
+        ensures inside { IfOk result (λ names. All (λ name. stands_in folder.now name ≡ true) names) }
+        ensures ordered { IfOk result (λ names. IsStrictlySortedBy (slice_cmp nat_cmp) names) }
+        ensures known { self.new.known ≡ self.old.known }
+        ensures cause { HasCause ShelfCall.List (count_of self.old.faults) (count_of self.new.faults) (IsErrOf result ShelfFail.Failed) }
+        ensures taken { self.new.taken ≡ self.old.taken }
+    {
+        let names = list_files(self.rt, alloc, folder);
+        self.counted_or_oom(ShelfCall::List, folder, names)
+    }
 }

@@ -1,21 +1,32 @@
 // What a real disk and a real output do, which no clause tells.
+ghost use Rattle.std.specs.Prelude.{◌≡◌, ◌-◌, ◌==◌, length, slice_index};
+
 use crate::{RealShelf, RealSink};
-use rip_outside::{Fault, Shelf, ShelfFail, Sink};
-use std::alloc::{Allocator, Global};
+use rip_outside::{Fault, Folder, Names, Shelf, ShelfFail, Sink};
+use std::alloc::{AllocError, Allocator, Global};
 use std::cell::Cell;
 use std::fmt::Display;
 use std::fs::{File, Metadata, OpenOptions};
-use std::io::Eprint;
+use std::io::{Eprint, ErrorKind, Read};
 use std::os::unix::fs::symlink;
 use std::rt::Files;
 use std::test::Fail;
 use std::{env, fs, io, process};
+
+// What every folder of a disk tells of its entries: their names, these names, each ended by a zero byte, or an error.
+#[derive(Clone, Copy, Drop)]
+enum Entries {
+    Own,
+    These(&'static [u8]),
+    Refused(ErrorKind),
+}
 
 // The runtime's files, which may lie on a file system without links. The last line of standard error is kept.
 #[derive(Drop)]
 struct Disk {
     rt: HostRuntime,
     has_links: bool,
+    entries: Entries,
     line: Cell<Option<String>>,
 }
 
@@ -24,7 +35,33 @@ impl Disk {
         Disk {
             rt,
             has_links,
+            entries: Entries::Own,
             line: Cell::new(None),
+        }
+    }
+
+    fn telling(rt: HostRuntime, entries: Entries) -> Self {
+        Disk {
+            rt,
+            has_links: true,
+            entries,
+            line: Cell::new(None),
+        }
+    }
+}
+
+// A folder that is read, or names in its place.
+#[derive(Drop)]
+enum Opened {
+    Folder(<HostRuntime as Files>::Dir),
+    Names(&'static [u8]),
+}
+
+impl Read for Opened {
+    fn read(&mut self, buf: &mut [u8]) -> io::Result<usize> {
+        match self {
+            Opened::Folder(folder) => folder.read(buf),
+            Opened::Names(names) => names.read(buf),
         }
     }
 }
@@ -51,14 +88,18 @@ impl Eprint for Disk {
 impl Files for Disk {
     type File = File;
 
-    type Dir = <HostRuntime as Files>::Dir;
+    type Dir = Opened;
 
     fn open_file(&self, how: &OpenOptions, path: &str) -> io::Result<File> {
         self.rt.open_file(how, path)
     }
 
-    fn open_dir(&self, path: &str) -> io::Result<Self::Dir> {
-        self.rt.open_dir(path)
+    fn open_dir(&self, path: &str) -> io::Result<Opened> {
+        match self.entries {
+            Entries::Own => Ok(Opened::Folder(self.rt.open_dir(path)?)),
+            Entries::These(names) => Ok(Opened::Names(names)),
+            Entries::Refused(kind) => Err(io::Error::from(kind)),
+        }
     }
 
     fn metadata(&self, path: &str) -> io::Result<Metadata> {
@@ -181,6 +222,111 @@ fn names_of_no_file(rt: HostRuntime) -> Result<(), Fail> {
     assert_eq!(rt; shelf.size(zero.as_str()), Ok(None));
     let long = format!(in rt.alloc(); "{folder}/{:0300}", 0)?;
     assert_eq!(rt; shelf.size(long.as_str()), Ok(None));
+    fs::remove_dir_all(&rt, folder.as_str())?;
+    Ok(())
+}
+
+// A name that ends in `/` is a folder's.
+fn ends_in_slash(name: &[u8]) -> bool
+    ensures { result ≡ (slice_index name.now (length name.now - 1) == 47) }
+{
+    name.len() > 0 && name[name.len() - 1] == b'/'
+}
+
+// What stands behind the folder's name in each of these names, behind a blank.
+fn own_names(alloc: Global, folder: &str, names: &Names) -> Result<String, AllocError> {
+    let mut own = String::new(alloc);
+    for name in names.as_slice() {
+        own.push(' ')?;
+        if let Some(rest) = name.as_str().strip_prefix(folder) {
+            own.push_str(rest)?;
+        }
+    }
+    Ok(own)
+}
+
+// The own names that a folder's listing has, each behind a blank.
+fn listed(disk: &Disk, folder: &str) -> Result<String, ShelfFail> {
+    let alloc = disk.rt.alloc();
+    if !ends_in_slash(folder.as_bytes()) {
+        return Err(ShelfFail::Failed);
+    }
+    let names = RealShelf::new(disk).list(alloc, folder)?;
+    own_names(alloc, folder, &names).map_err(|_| ShelfFail::Oom)
+}
+
+#[test]
+fn a_folder_is_listed(rt: HostRuntime) -> Result<(), Fail> {
+    let alloc = rt.alloc();
+    let folder = folder_for(&rt, "listed")?;
+    for name in [
+        "b.wav",
+        "a.wav",
+        "\u{e4}.wav",
+        "A.wav",
+        ".a",
+        "a.wav2",
+        "a b",
+    ] {
+        fs::write(&rt, format!(in alloc; "{folder}/{name}")?.as_str(), "RIFF")?;
+    }
+    let below = format!(in alloc; "{folder}/below")?;
+    fs::create_dir_all(&rt, below.as_str())?;
+    fs::write(&rt, format!(in alloc; "{below}/c.wav")?.as_str(), "RIFF")?;
+    for (target, link) in [("a.wav", "link"), ("none", "dangling"), ("below", "way")] {
+        symlink(&rt, target, format!(in alloc; "{folder}/{link}")?.as_str())?;
+    }
+    let disk = Disk::new(rt, true);
+    let found = listed(&disk, format!(in alloc; "{folder}/")?.as_str());
+    let wanted = " .a A.wav a b a.wav a.wav2 b.wav dangling link way \u{e4}.wav";
+    assert!(rt; found.is_ok_and(|found| found.as_str() == wanted));
+    let found = listed(&disk, format!(in alloc; "{below}/")?.as_str());
+    assert!(rt; found.is_ok_and(|found| found.as_str() == " c.wav"));
+    fs::remove_dir_all(&rt, folder.as_str())?;
+    Ok(())
+}
+
+#[test]
+fn a_folder_that_is_not_there_has_no_names(rt: HostRuntime) -> Result<(), Fail> {
+    let alloc = rt.alloc();
+    let folder = folder_for(&rt, "absent")?;
+    let file = format!(in alloc; "{folder}/disc.wav")?;
+    fs::write(&rt, file.as_str(), "RIFF")?;
+    let disk = Disk::new(rt, true);
+    for name in [
+        format!(in alloc; "{folder}/none/")?,
+        format!(in alloc; "{file}/")?,
+        format!(in alloc; "{folder}/\0/")?,
+        format!(in alloc; "{folder}/{:0300}/", 0)?,
+    ] {
+        let found = listed(&disk, name.as_str());
+        assert!(rt; found.is_ok_and(|found| found.as_str() == ""), "at {name}");
+    }
+    fs::remove_dir_all(&rt, folder.as_str())?;
+    Ok(())
+}
+
+#[test]
+fn a_folder_that_tells_no_names_is_a_failure(rt: HostRuntime) -> Result<(), Fail> {
+    let alloc = rt.alloc();
+    let folder = folder_for(&rt, "untold")?;
+    fs::write(&rt, format!(in alloc; "{folder}/a.wav")?.as_str(), "RIFF")?;
+    let name = format!(in alloc; "{folder}/")?;
+    // An entry that is gone by now is left out.
+    let disk = Disk::telling(rt, Entries::These(b"gone.wav\0..\0a.wav\0"));
+    let found = listed(&disk, name.as_str());
+    assert!(rt; found.is_ok_and(|found| found.as_str() == " a.wav"));
+    // A name that isn't UTF-8.
+    let disk = Disk::telling(rt, Entries::These(b"a.wav\0\xff.wav\0"));
+    assert!(rt; matches!(listed(&disk, name.as_str()), Err(ShelfFail::Failed)));
+    let wanted = format!(in alloc; "rip: {name}: invalid filename")?;
+    assert_eq!(rt; line_of(&disk).as_str(), wanted.as_str());
+    let disk = Disk::telling(rt, Entries::Refused(ErrorKind::PermissionDenied));
+    assert!(rt; matches!(listed(&disk, name.as_str()), Err(ShelfFail::Failed)));
+    let wanted = format!(in alloc; "rip: {name}: permission denied")?;
+    assert_eq!(rt; line_of(&disk).as_str(), wanted.as_str());
+    let disk = Disk::telling(rt, Entries::Refused(ErrorKind::OutOfMemory));
+    assert!(rt; matches!(listed(&disk, name.as_str()), Err(ShelfFail::Oom)));
     fs::remove_dir_all(&rt, folder.as_str())?;
     Ok(())
 }

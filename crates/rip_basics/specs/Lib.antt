@@ -1,1 +1,2 @@
 pub mod Disc
+pub mod FileNames

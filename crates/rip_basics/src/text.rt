@@ -113,4 +113,11 @@ impl Names {
     {
         self.list.as_slice()
     }
+
+    /// The names as a list. It takes no memory.
+    pub fn into_vec(self) -> Vec<Name>
+        ensures { result.items ≡ self }
+    {
+        self.list
+    }
 }

@@ -5,7 +5,7 @@ use Rattle.wav_frames.specs.Wav.{wav_bytes}
 use Rattle.engine_search.proofs.AgreementLaws.{one_agreeing}
 use Rattle.parity_store.specs.Naming.{record_name_of}
 use Rattle.rip_words.specs.declared.Command.{Command}
-use Rattle.rip_words.specs.declared.Command.TheVariants.{Register, Verify, Offsets, Repair, Upgrade, MatchSums, Sums, Trial, Split, Join}
+use Rattle.rip_words.specs.declared.Command.TheVariants.{Register, Verify, Offsets, Repair, Upgrade, MatchSums, Sums, Trial, Split, Join, ListStore, CheckStore, MergeStores}
 use Rattle.rip_report.specs.Texts.{written_text}
 use Rattle.rip_report.specs.declared.status.Status.TheVariants.{Done}
 use Rattle.engine_steps.specs.Steps.{compared, free, measured, opened}
@@ -56,4 +56,7 @@ one_outcome (Ok (Split input folder)) files a b is also =
     then_one (opened input files) _ a b (λ rip _. then_one (free (split_names folder (length rip.toc.starts)) rip.names files) _ a b (λ _ _ is also. is ∙ sym also)) is also
 one_outcome (Ok (Join input to)) files a b is also =
     then_one (opened input files) _ a b (λ rip _. then_one (free (join_names to) rip.names files) _ a b (λ _ _ is also. is ∙ sym also)) is also
+one_outcome (Ok (ListStore folder)) files a b is also = is ∙ sym also
+one_outcome (Ok (CheckStore folder)) files a b is also = is ∙ sym also
+one_outcome (Ok (MergeStores from to)) files a b is also = is ∙ sym also
 one_outcome (Ok (Trial sectors seed shift hits)) files a b is also = is.1.2 ∙ ap (answered Done) (one_text sectors seed shift hits is.0 is.1.0 also.1.0 is.1.1 also.1.1) ∙ sym also.1.2

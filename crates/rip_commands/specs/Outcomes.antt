@@ -5,7 +5,7 @@ use Rattle.column_map.specs.Npar.{parity_words}
 use Rattle.rip_inputs.specs.Opening.{lengths_of, names_read}
 use Rattle.rip_report.specs.declared.status.Status.TheVariants.{Usage}
 use Rattle.rip_words.specs.declared.Command.{Command}
-use Rattle.rip_words.specs.declared.Command.TheVariants.{Register, Verify, Offsets, Repair, Upgrade, MatchSums, Sums, Trial, Split, Join}
+use Rattle.rip_words.specs.declared.Command.TheVariants.{Register, Verify, Offsets, Repair, Upgrade, MatchSums, Sums, Trial, Split, Join, ListStore, CheckStore, MergeStores}
 use Rattle.engine_steps.specs.Outcome.{Outcome, refused}
 use Rattle.cmd_register.specs.RegisterOutcome.{IsRegisterOutcome}
 use Rattle.cmd_verify.specs.VerifyOutcome.{IsVerifyOutcome}
@@ -16,6 +16,9 @@ use Rattle.cmd_sums.specs.SumsOutcome.{IsSumsOutcome}
 use Rattle.cmd_match.specs.MatchOutcome.{IsMatchOutcome, matched_names}
 use Rattle.cmd_split.specs.SplitOutcome.{IsSplitOutcome}
 use Rattle.cmd_join.specs.JoinOutcome.{IsJoinOutcome}
+use Rattle.cmd_store.specs.StoreOutcome.{IsCheckOutcome, IsListOutcome}
+use Rattle.cmd_merge.specs.MergeOutcome.{IsMergeOutcome, merged_names}
+use Rattle.store_upkeep.specs.Entries.{entries_in}
 use Rattle.cmd_trial.specs.TrialOutcome.{IsTrialOutcome}
 use Rattle.engine_steps.specs.Comparing.{compared_names}
 use Rattle.engine_steps.specs.Steps.{compared}
@@ -32,6 +35,9 @@ IsCommandOutcome (MatchSums input resp) files outcome = IsMatchOutcome input res
 IsCommandOutcome (Sums input) files outcome = IsSumsOutcome input files outcome
 IsCommandOutcome (Split input folder) files outcome = IsSplitOutcome input folder files outcome
 IsCommandOutcome (Join input to) files outcome = IsJoinOutcome input to files outcome
+IsCommandOutcome (ListStore folder) files outcome = IsListOutcome folder files outcome
+IsCommandOutcome (CheckStore folder) files outcome = IsCheckOutcome folder files outcome
+IsCommandOutcome (MergeStores from to) files outcome = IsMergeOutcome from to files outcome
 IsCommandOutcome (Trial sectors seed shift hits) files outcome = IsTrialOutcome sectors seed shift hits outcome
 
 -- The outcome of the words, by their reading, over these files. At most one outcome meets it.
@@ -57,4 +63,7 @@ IsMostTaken (Ok (MatchSums input resp)) files most = most ≡ 11 * lengths_of (m
 IsMostTaken (Ok (Sums input)) files most = most ≡ 3 * lengths_of (names_read input files) files
 IsMostTaken (Ok (Split input folder)) files most = most ≡ 3 * lengths_of (names_read input files) files
 IsMostTaken (Ok (Join input to)) files most = most ≡ 3 * lengths_of (names_read input files) files
+IsMostTaken (Ok (ListStore folder)) files most = most ≡ 3 * lengths_of (entries_in folder files) files
+IsMostTaken (Ok (CheckStore folder)) files most = most ≡ 3 * lengths_of (entries_in folder files) files
+IsMostTaken (Ok (MergeStores from to)) files most = most ≡ 3 * lengths_of (merged_names from to files) files
 IsMostTaken (Ok (Trial sectors seed shift hits)) files most = most ≡ 0

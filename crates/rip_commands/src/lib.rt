@@ -9,7 +9,7 @@ ghost use Rattle.std.specs.FinMap.{empty};
 ghost use Rattle.rip_outside.specs.Causes.{NoneFell};
 ghost use Rattle.rip_commands.specs.Look.{look};
 ghost use Rattle.column_map.specs.Columns.{IsOffset};
-ghost use Rattle.rip_words.specs.Command.{TrialIsInRange, offset_in};
+ghost use Rattle.rip_words.specs.Command.{NamesMayStand, TrialIsInRange, offset_in};
 ghost use Rattle.rip_report.specs.Texts.{read_fault_line, refusal_line, write_fault_line};
 ghost use Rattle.engine_steps.specs.Steps.{EndsWithCause, Takes};
 ghost use Rattle.rip_commands.specs.Outcomes.{IsCommandOutcome, IsOutcomeOf, IsMostTaken};
@@ -20,32 +20,35 @@ ghost use Rattle.rip_commands.specs.Ran.{Comes, FaultsOfCommand, IsTrialRead, Ne
 
 use cmd_join::join;
 use cmd_match::match_sums;
+use cmd_merge::merge;
 use cmd_offsets::offsets;
 use cmd_register::register;
 use cmd_repair::repair;
 use cmd_split::split;
+use cmd_store::{check, list};
 use cmd_sums::sums;
 use cmd_trial::trial;
 use cmd_upgrade::upgrade;
 use cmd_verify::verify;
 use engine_steps::{Answer, Stop};
-use rip_outside::{Shelf, Text};
+use rip_outside::{Folder, Text};
 use rip_report::{Status, refusal_text};
 use rip_words::Command;
 use std::alloc::{AllocError, Global};
 
 // Does a command, but for what is told of it.
-fn perform<S: Shelf>(alloc: Global, command: Command, shelf: &mut S) -> Result<Answer, Stop>
+fn perform<F: Folder>(alloc: Global, command: Command, shelf: &mut F) -> Result<Answer, Stop>
     requires offset { IfSome (offset_in command) IsOffset }
     requires trial { TrialIsInRange command }
-    ensures leaves { IfSome (S.held shelf.old) (λ files. Leaves (IsCommandOutcome command files) files result (S.held shelf.new)) }
-    ensures crashes { CrashSafe (IsCommandOutcome command) (IsOk result) (S.crashes shelf.old) (S.crashes shelf.new) }
-    ensures cause { EndsWithCause (S.faults shelf.old) (S.faults shelf.new) result }
-    ensures later { NoneFell (S.faults shelf.old) (S.faults shelf.new) }
+    requires names { NamesMayStand command }
+    ensures leaves { IfSome (F.held shelf.old) (λ files. Leaves (IsCommandOutcome command files) files result (F.held shelf.new)) }
+    ensures crashes { CrashSafe (IsCommandOutcome command) (IsOk result) (F.crashes shelf.old) (F.crashes shelf.new) }
+    ensures cause { EndsWithCause (F.faults shelf.old) (F.faults shelf.new) result }
+    ensures later { NoneFell (F.faults shelf.old) (F.faults shelf.new) }
     ensures reads { FaultsOfCommand (Ok command) result }
     ensures no_file { NeedsNoFile (Ok command) → Comes (IsCommandOutcome command empty) result }
     ensures untouched { IsTrialRead (Ok command) → shelf.new ≡ shelf.old }
-    ensures taken { IfSome (S.held shelf.old) (λ files. (most : ℕ) → IsMostTaken (Ok command) files most → Takes most result (S.taken shelf.old) (S.taken shelf.new)) }
+    ensures taken { IfSome (F.held shelf.old) (λ files. (most : ℕ) → IsMostTaken (Ok command) files most → Takes most result (F.taken shelf.old) (F.taken shelf.new)) }
 {
     match command {
         Command::Register { input, rec, npar } => {
@@ -75,6 +78,9 @@ fn perform<S: Shelf>(alloc: Global, command: Command, shelf: &mut S) -> Result<A
         Command::Sums { input } => sums(alloc, shelf, input.as_str()),
         Command::Split { input, folder } => split(alloc, shelf, input.as_str(), folder.as_str()),
         Command::Join { input, to } => join(alloc, shelf, input.as_str(), to.as_str()),
+        Command::ListStore { folder } => list(alloc, shelf, folder.as_str()),
+        Command::CheckStore { folder } => check(alloc, shelf, folder.as_str()),
+        Command::MergeStores { from, to } => merge(alloc, shelf, from.as_str(), to.as_str()),
         Command::Trial {
             sectors,
             seed,
@@ -137,9 +143,10 @@ fn told_of(alloc: Global, came: Result<Answer, Stop>, read_line: Text, write_lin
 
 /// Does a command but for its printing: a status, and the text that is to be printed.
 #[tactic(auto, using(engine_steps::proofs::CrashingLaws::safe_none))]
-pub fn tell<F: Shelf>(alloc: Global, command: Command, shelf: &mut F) -> Answer
+pub fn tell<F: Folder>(alloc: Global, command: Command, shelf: &mut F) -> Answer
     requires offset { IfSome (offset_in command) IsOffset }
     requires trial { TrialIsInRange command }
+    requires names { NamesMayStand command }
     ensures ran { Ran (Ok command) (look F.Shelf shelf.old) (look F.Shelf shelf.new) result }
     ensures crashes { CrashSafe (IsOutcomeOf (Ok command)) (result.status ≡ Status.Done) (F.crashes shelf.old) (F.crashes shelf.new) }
     ensures no_file { ToldWithoutFiles (Ok command) result }

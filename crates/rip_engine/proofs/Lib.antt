@@ -1,4 +1,5 @@
+pub mod AgainLaws
 pub mod Ending
 pub mod Headline
+pub mod MergeLaws
 pub mod StoredLaws
-pub mod AgainLaws

@@ -13,7 +13,7 @@ use crate::leftover::{redo_all, tear_all};
 use crate::memory_shelf::MemoryShelf;
 use crate::quiet_shelf::QuietShelf;
 use crate::served::{Bytes, Served, add_call, keep_call, ready, take_name};
-use rip_outside::{Fault, Name, Oom, Shelf, ShelfCall, ShelfFail};
+use rip_outside::{Fault, Folder, Name, Names, Oom, Shelf, ShelfCall, ShelfFail};
 use std::alloc::Global;
 use std::marker::Model;
 
@@ -197,4 +197,10 @@ impl Shelf for CrashShelf {
     ghost use Rattle.std.specs.Prelude.{refl};
 
     ghost tells_held = { λ _. refl };
+}
+
+impl Folder for CrashShelf {
+    fn list(&mut self, alloc: Global, folder: &str) -> Result<Names, ShelfFail> {
+        self.shelf.list(alloc, folder)
+    }
 }

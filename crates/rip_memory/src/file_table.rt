@@ -1,9 +1,11 @@
 // Named files in memory.
-ghost use Rattle.std.specs.Prelude.{◌≡◌, ◌≢◌, ◌+◌, ◌≤◌, length, slice_range, OnOk, OnErr};
+ghost use Rattle.std.specs.Prelude.{◌≡◌, ◌≢◌, ◌+◌, ◌≤◌, length, slice_range, IfOk, OnOk, OnErr};
 ghost use Rattle.std.specs.Option.{option_copied, option_map};
 ghost use Rattle.std.specs.FinMap.{get, empty, remove};
 ghost use Rattle.rip_outside.specs.Files.{IsHeld, bytes_at, after_make, after_append, after_rename};
+ghost use Rattle.rip_outside.specs.Listing.{is_own_name, names_in, stands_in};
 
+use rip_outside::{Name, Names, Oom};
 use std::alloc::{AllocError, Global};
 use std::collections::BTreeMap;
 use std::marker::Model;
@@ -33,6 +35,20 @@ fn copy_part(bytes: &[u8], from: usize, buf: &mut [u8])
 {
     let end = from + buf.len();
     buf.copy_from_slice(&bytes[from..end]);
+}
+
+// A file's own name has at least one byte, and no `/`.
+fn is_own_name(name: &[u8]) -> bool
+    ensures { result ≡ is_own_name name.now }
+{
+    !name.is_empty() && !name.contains(&b'/')
+}
+
+// Whether a name stands directly in a folder.
+fn stands_in(folder: &[u8], name: &[u8]) -> bool
+    ensures { result ≡ stands_in folder.now name.now }
+{
+    name.starts_with(folder) && is_own_name(&name[folder.len()..])
 }
 
 impl FileTable {
@@ -71,6 +87,19 @@ impl FileTable {
         if let Some(bytes) = self.files.get(name) {
             copy_part(bytes, at as usize, buf);
         }
+    }
+
+    /// The names that stand directly in a folder, in the order of their bytes.
+    pub fn names_in(&self, alloc: Global, folder: &str) -> Result<Names, Oom>
+        ensures { IfOk result (λ names. names ≡ names_in folder.now self.now) }
+    {
+        let mut names = Vec::new(alloc);
+        for name in self.files.keys() {
+            if stands_in(folder.as_bytes(), name.as_bytes()) {
+                names.push(Name::copied(alloc, name.as_str())?)?;
+            }
+        }
+        Ok(Names::of(names))
     }
 
     /// Makes a file hold no bytes. After want of memory nothing is changed.

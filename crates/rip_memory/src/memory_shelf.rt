@@ -1,5 +1,5 @@
 // A shelf in memory, whose calls fail where they were listed to fail.
-ghost use Rattle.std.specs.Prelude.{◌≡◌, ◌≢◌, ◌+◌, ◌↔◌, ◌≤◌, ◌++◌, ◌∷◌, [], ℕ, length, false, slice_range, IsTrue, IfOk, OnOk, OnErr, IsErr, IsErrOf, Some, if◌then◌else◌};
+ghost use Rattle.std.specs.Prelude.{◌≡◌, ◌≢◌, ◌+◌, ◌↔◌, ◌≤◌, ◌++◌, ◌∷◌, [], ℕ, length, true, false, slice_range, All, IsTrue, IfOk, OnOk, OnErr, IsErr, IsErrOf, Some, if◌then◌else◌};
 ghost use Rattle.std.specs.FinMap.{empty, get};
 ghost use Rattle.std.specs.Option.{option_copied, option_map};
 ghost use Rattle.rip_outside.specs.Counts.{count_of, raised};
@@ -7,11 +7,12 @@ ghost use Rattle.rip_outside.specs.Causes.{HasCause};
 ghost use Rattle.rip_memory.specs.Listed.{is_due, counted_down};
 ghost use Rattle.rip_memory.specs.Filling.{first_half};
 ghost use Rattle.rip_outside.specs.Files.{AppendsPrefix, IsHeld, bytes_at, after_make, after_append, after_rename};
+ghost use Rattle.rip_outside.specs.Listing.{names_in, stands_in};
 ghost use Rattle.rip_outside.specs.Crashes.Outlook.{Untold};
 
 use crate::file_table::FileTable;
 use crate::listed::{Listed, count_down};
-use rip_outside::{Counts, Fault, Oom, Shelf, ShelfCall, ShelfFail};
+use rip_outside::{Counts, Fault, Folder, Names, Oom, Shelf, ShelfCall, ShelfFail};
 use std::alloc::Global;
 use std::marker::Model;
 
@@ -203,4 +204,23 @@ impl Shelf for MemoryShelf {
     }
 
     ghost tells_held = { λ _. tt };
+}
+
+impl Folder for MemoryShelf {
+    ghost use Rattle.rip_memory.specs.MemoryFiles.{call_begun};
+
+    fn list(&mut self, alloc: Global, folder: &str) -> Result<Names, ShelfFail>
+        ensures inside { IfOk result (λ names. All (λ name. stands_in folder.now name ≡ true) names) }
+        ensures names { IfOk result (λ names. names ≡ names_in folder.now self.old.files) }
+        ensures listed { IsErrOf result ShelfFail.Failed ↔ IsTrue (is_due ShelfCall.List self.old.listed) }
+        ensures after { self.new ≡ call_begun ShelfCall.List self.old }
+        ensures cause { HasCause ShelfCall.List (count_of self.old.faults) (count_of self.new.faults) (IsErrOf result ShelfFail.Failed) }
+    {
+        if begin(&mut self.faults, &mut self.listed, ShelfCall::List) {
+            return Err(ShelfFail::Failed);
+        }
+        self.files
+            .names_in(alloc, folder)
+            .map_err(|_| ShelfFail::Oom)
+    }
 }

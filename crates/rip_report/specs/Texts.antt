@@ -5,7 +5,7 @@ use Rattle.rip_report.specs.Kinds.{cue_kind_text, layout_kind_text, layout_part_
 use Rattle.disc_toc.specs.declared.difference.LayoutPart.{LayoutPart}
 use Rattle.column_map.specs.declared.candidate.Candidate.{Candidate}
 use Rattle.rip_report.specs.declared.status.Status.{Status}
-use Rattle.rip_report.specs.declared.status.Status.TheVariants.{Done, Usage, Missing, CueRefused, WavRefused, LayoutRefused, NoRecord, RecordRefused, OutExists, OtherLayout, Sealed, NoCandidate, Several, NotNear, Mendable, SealDiffers, NoResponse, ResponseRefused, ReadFault, WriteFault, SinkFault, WantOfMemory}
+use Rattle.rip_report.specs.declared.status.Status.TheVariants.{Done, Usage, Missing, CueRefused, WavRefused, LayoutRefused, NoRecord, RecordRefused, OutExists, OtherLayout, Sealed, NoCandidate, Several, NotNear, Mendable, SealDiffers, NoResponse, ResponseRefused, BadRecords, ReadFault, WriteFault, SinkFault, WantOfMemory}
 
 -- each line ends with a line feed
 abbrev pub line : List ℕ → List ℕ
@@ -42,7 +42,7 @@ other_layout_line part rip kept = line (codes "other layout " ++ layout_part_tex
 abbrev pub several_line : ℤ → ℤ → List ℕ
 several_line first second = line (codes "several " ++ offset_text first ++ codes " " ++ offset_text second)
 
--- The lines of a refusal. Success has a text of its command's own, and the last two statuses print nothing.
+-- The lines of a refusal. Success and bad records have texts of their commands' own, and the last two statuses print nothing.
 abbrev pub refusal_line : Status → List ℕ
 refusal_line (Usage word) = line (codes "usage word " ++ decimal word)
 refusal_line (Missing name) = line (codes "missing " ++ name)
@@ -63,6 +63,7 @@ refusal_line (NoResponse name) = line (codes "no response " ++ name)
 refusal_line (ResponseRefused kind) = line (codes "response " ++ response_kind_text kind)
 refusal_line (ReadFault call) = read_fault_line
 refusal_line (WriteFault call) = write_fault_line
+refusal_line (BadRecords bad) = []
 refusal_line Done = []
 refusal_line SinkFault = []
 refusal_line WantOfMemory = []
@@ -123,6 +124,7 @@ exit_number (Mendable offset errors columns) = 23
 exit_number SealDiffers = 24
 exit_number (NoResponse name) = 25
 exit_number (ResponseRefused kind) = 26
+exit_number (BadRecords bad) = 27
 exit_number (ReadFault call) = 30
 exit_number (WriteFault call) = 31
 exit_number SinkFault = 32

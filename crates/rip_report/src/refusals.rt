@@ -42,7 +42,7 @@ fn layout_line(alloc: Global, kind: LayoutKind) -> Result<String, AllocError>
     }
 }
 
-fn record_line(alloc: Global, kind: RecordKind) -> Result<String, AllocError>
+pub(crate) fn record_line(alloc: Global, kind: RecordKind) -> Result<String, AllocError>
     ensures { IfOk result (λ made. string_bytes made ≡ refusal_line (Status.RecordRefused kind)) }
 {
     match kind {
@@ -133,11 +133,13 @@ pub(crate) fn refusal_lines(alloc: Global, status: &Status) -> Result<String, Al
         Status::ResponseRefused { kind } => response_line(alloc, *kind),
         Status::ReadFault { call: _ } => String::from_str(alloc, "read fault\n"),
         Status::WriteFault { call: _ } => String::from_str(alloc, "write fault\n"),
-        Status::Done | Status::SinkFault | Status::WantOfMemory => String::from_str(alloc, ""),
+        Status::BadRecords { bad: _ } | Status::Done | Status::SinkFault | Status::WantOfMemory =>
+            String::from_str(alloc, ""),
     }
 }
 
-/// The text of a refusal, or Oom for want of memory. Success, a failed output and want of memory have no line.
+/// The text of a refusal, or Oom for want of memory. Success, bad records, a failed output and want of memory have
+/// no line.
 pub fn refusal_text(alloc: Global, status: &Status) -> Result<Text, Oom>
     ensures { IfOk result (λ text. text ≡ refusal_line status.now) }
 {

@@ -92,6 +92,10 @@ pub enum Status {
     ResponseRefused {
         kind: ResponseKind,
     },
+    /// So many records of a store are bad.
+    BadRecords {
+        bad: u64,
+    },
     /// A call that reads failed.
     ReadFault {
         call: ShelfCall,
@@ -141,6 +145,7 @@ impl Status {
             Status::SealDiffers => 24,
             Status::NoResponse { name: _ } => 25,
             Status::ResponseRefused { kind: _ } => 26,
+            Status::BadRecords { bad: _ } => 27,
             Status::ReadFault { call: _ } => 30,
             Status::WriteFault { call: _ } => 31,
             Status::SinkFault => 32,

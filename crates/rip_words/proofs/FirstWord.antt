@@ -17,10 +17,11 @@ other word own differs = by (bytes_eq word own) (bytes_eq-Decides word own) refl
     by false same is = is
 
 -- where it is none of the other commands' own words, it asks for a command with two names, or for none
-pub two_names : (first : List ℕ) (rest : List (List ℕ)) → (first ≡ codes "sums" → ⊥) → (first ≡ codes "split" → ⊥) → (first ≡ codes "join" → ⊥) → (first ≡ codes "trial" → ⊥)
+pub two_names : (first : List ℕ) (rest : List (List ℕ)) → (first ≡ codes "sums" → ⊥) → (first ≡ codes "split" → ⊥) → (first ≡ codes "join" → ⊥) → (first ≡ codes "list" → ⊥) → (first ≡ codes "check" → ⊥) → (first ≡ codes "merge" → ⊥)
+    → (first ≡ codes "trial" → ⊥)
     → command_reading (first ∷ rest) ≡ verb_words (verb_of first) rest
-two_names first rest sums split join trial =
-    rw (other first (codes "sums") sums, other first (codes "split") split, other first (codes "join") join, other first (codes "trial") trial) refl
+two_names first rest sums split join list check merge trial =
+    rw (other first (codes "sums") sums, other first (codes "split") split, other first (codes "join") join, other first (codes "list") list, other first (codes "check") check, other first (codes "merge") merge, other first (codes "trial") trial) refl
 
 -- the words after it
 pub words_split : (words : List (String Global)) (first : String Global) → 1 ≤ length words → first ≡ get_or words 0 first

@@ -7,8 +7,9 @@ use Rattle.std.specs.String.{string_bytes}
 use Rattle.std.specs.declared.alloc.Global.{Global}
 use Rattle.column_map.specs.Columns.{IsOffset}
 use Rattle.rip_words.specs.declared.Command.{Command}
-use Rattle.rip_words.specs.declared.Command.TheVariants.{Register, Verify, Offsets, Repair, Upgrade, MatchSums, Sums, Trial, Split, Join}
-use Rattle.rip_words.specs.FileNames.{ends_in_slash, is_quotable, name_in_folder}
+use Rattle.rip_words.specs.declared.Command.TheVariants.{Register, Verify, Offsets, Repair, Upgrade, MatchSums, Sums, Trial, Split, Join, ListStore, CheckStore, MergeStores}
+use Rattle.rip_basics.specs.FileNames.{ends_in_slash}
+use Rattle.rip_words.specs.FileNames.{is_quotable, name_in_folder}
 use Rattle.column_map.specs.declared.npar.Npar.{Npar}
 use Rattle.column_map.specs.declared.npar.Npar.TheVariants.{Four, Eight, Sixteen, ThirtyTwo}
 use Rattle.rip_words.specs.declared.Verb.{Verb}
@@ -23,6 +24,10 @@ texts words = map string_bytes words
 abbrev pub is_name : List ℕ → Bool
 is_name [] = false
 is_name (first ∷ rest) = not (first == 45)
+
+-- a word that names a folder names a file too, and ends in "/"
+abbrev pub is_folder : List ℕ → Bool
+is_folder word = is_name word && ends_in_slash word
 
 -- ---- the options
 
@@ -150,14 +155,25 @@ abbrev pub sums_words : List (List ℕ) → Result Command ℕ
 sums_words [] = Err 1
 sums_words (input ∷ rest) = if is_name input then no_word 2 (Sums input) rest else Err 1
 
--- the words after `split`: INPUT, and FOLDER, which ends in "/"
-abbrev pub folder_words : List ℕ → List (List ℕ) → Result Command ℕ
-folder_words input [] = Err 2
-folder_words input (folder ∷ rest) = if is_name folder && ends_in_slash folder then no_word 3 (Split input folder) rest else Err 2
+-- nothing stands at this index
+abbrev pub end_of_words : {A : Type 0} → ℕ → A → List (List ℕ) → Result A ℕ
+end_of_words at value [] = Ok value
+end_of_words at value (more ∷ rest) = Err at
 
+-- the last word, which is at this index: a folder
+abbrev pub folder_word : ℕ → List (List ℕ) → Result (List ℕ) ℕ
+folder_word at [] = Err at
+folder_word at (folder ∷ rest) = if is_folder folder then end_of_words (at + 1) folder rest else Err at
+
+-- the words after `split`: INPUT and FOLDER
 abbrev pub split_words : List (List ℕ) → Result Command ℕ
 split_words [] = Err 1
-split_words (input ∷ rest) = if is_name input then folder_words input rest else Err 1
+split_words (input ∷ rest) = if is_name input then with_option (Split input) (folder_word 2 rest) else Err 1
+
+-- the words after `merge`: FROM and TO
+abbrev pub merge_words : List (List ℕ) → Result Command ℕ
+merge_words [] = Err 1
+merge_words (from ∷ rest) = if is_folder from then with_option (MergeStores from) (folder_word 2 rest) else Err 1
 
 -- the words after `join`: INPUT, and OUT, whose name in its folder may stand in a sheet
 abbrev pub file_words : List ℕ → List (List ℕ) → Result Command ℕ
@@ -182,6 +198,9 @@ command_reading (first ∷ rest) =
     if bytes_eq first (codes "sums") then sums_words rest
     else if bytes_eq first (codes "split") then split_words rest
     else if bytes_eq first (codes "join") then join_words rest
+    else if bytes_eq first (codes "list") then with_option ListStore (folder_word 1 rest)
+    else if bytes_eq first (codes "check") then with_option CheckStore (folder_word 1 rest)
+    else if bytes_eq first (codes "merge") then merge_words rest
     else if bytes_eq first (codes "trial") then trial_words rest
     else verb_words (verb_of first) rest
 
@@ -202,6 +221,9 @@ offset_in (MatchSums input resp) = None
 offset_in (Sums input) = None
 offset_in (Split input folder) = None
 offset_in (Join input to) = None
+offset_in (ListStore folder) = None
+offset_in (CheckStore folder) = None
+offset_in (MergeStores from to) = None
 offset_in (Trial sectors seed shift hits) = None
 
 -- a trial has from 30 to 9,000 sectors, an offset as its shift, and at most 58,800 hits
@@ -222,11 +244,14 @@ TrialIsInRange (MatchSums input resp) = Unit {0}
 TrialIsInRange (Sums input) = Unit {0}
 TrialIsInRange (Split input folder) = Unit {0}
 TrialIsInRange (Join input to) = Unit {0}
+TrialIsInRange (ListStore folder) = Unit {0}
+TrialIsInRange (CheckStore folder) = Unit {0}
+TrialIsInRange (MergeStores from to) = Unit {0}
 TrialIsInRange (Trial sectors seed shift hits) = IsTrial sectors shift hits
 
--- ---- the names of a command that writes a sheet
+-- ---- the names of a command
 
--- The folder of the tracks ends in "/", and the name of the one file may stand in a sheet, in its folder.
+-- A folder ends in "/", and the name of the one file that `join` writes may stand in a sheet, in its folder.
 abbrev pub NamesMayStand : Command → Type 0
 NamesMayStand (Register input rec npar) = Unit {0}
 NamesMayStand (Verify input rec offset) = Unit {0}
@@ -236,5 +261,8 @@ NamesMayStand (Upgrade input rec) = Unit {0}
 NamesMayStand (MatchSums input resp) = Unit {0}
 NamesMayStand (Sums input) = Unit {0}
 NamesMayStand (Split input folder) = ends_in_slash folder ≡ true
+NamesMayStand (ListStore folder) = ends_in_slash folder ≡ true
+NamesMayStand (CheckStore folder) = ends_in_slash folder ≡ true
+NamesMayStand (MergeStores from to) = (ends_in_slash from ≡ true) × (ends_in_slash to ≡ true)
 NamesMayStand (Join input to) = (is_quotable (name_in_folder to) ≡ true) × IsUtf8 (name_in_folder to)
 NamesMayStand (Trial sectors seed shift hits) = Unit {0}

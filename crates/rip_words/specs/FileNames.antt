@@ -1,10 +1,6 @@
 -- The names of files and folders, as words name them.
-use Rattle.std.specs.Prelude.{ℕ, ◌-◌, ◌==◌, ◌&&◌, ◌||◌, Bool, not, List, [], ◌∷◌, length, slice_index, if◌then◌else◌}
+use Rattle.std.specs.Prelude.{ℕ, ◌==◌, ◌&&◌, ◌||◌, Bool, not, List, [], ◌∷◌, length, if◌then◌else◌}
 use Rattle.std.specs.List.{list_any}
-
--- a name that ends in "/" is a folder's
-abbrev pub ends_in_slash : List ℕ → Bool
-ends_in_slash name = slice_index name (length name - 1) == 47
 
 -- the name of a file in its folder: what stands after its last "/"
 unfoldable pub name_in_folder : List ℕ → List ℕ

@@ -1,11 +1,12 @@
 //! The words of the command line: the command that they are, or the index of the first that breaks a rule.
 #![tactic(auto)]
 
-ghost use Rattle.std.specs.Prelude.{◌≡◌, ◌<◌, ◌≤◌, ◌^◌, ◌+◌, IfOk, IfSome, IsOkUnless};
+ghost use Rattle.std.specs.Prelude.{◌≡◌, true, ◌<◌, ◌≤◌, ◌^◌, ◌+◌, IfOk, IfSome, IsOkUnless};
 ghost use Rattle.std.specs.Str.Parse.{without_leading_sign};
 ghost use Rattle.std.specs.String.{string_bytes};
 ghost use Rattle.column_map.specs.Columns.{IsOffset};
-ghost use Rattle.rip_words.specs.Command.{NamesMayStand, ReadsWords, TrialIsInRange, command_reading, command_words, hits_of, input_words, is_name, last_option, no_word, npar_option, number_of, offset_in, offset_of, offset_option, option_words, out_words, record_words, sectors_of, seed_of, sums_words, texts, trial_words, verb_of, verb_words, file_words, folder_words, join_words, split_words};
+ghost use Rattle.rip_basics.specs.FileNames.{ends_in_slash};
+ghost use Rattle.rip_words.specs.Command.{NamesMayStand, ReadsWords, TrialIsInRange, command_reading, command_words, hits_of, input_words, is_folder, is_name, last_option, no_word, npar_option, number_of, offset_in, offset_of, offset_option, option_words, out_words, record_words, sectors_of, seed_of, sums_words, texts, trial_words, verb_of, verb_words, file_words, folder_word, join_words, merge_words, split_words};
 
 mod naming;
 
@@ -64,6 +65,19 @@ pub enum Command {
     /// Writes the rip INPUT as one file under the name OUT, and its sheet beside it.
     Join {
         input: Name,
+        to: Name,
+    },
+    /// Lists the good records of the store FOLDER.
+    ListStore {
+        folder: Name,
+    },
+    /// Looks for bad records in the store FOLDER.
+    CheckStore {
+        folder: Name,
+    },
+    /// Adds the good records of the store FROM to the store TO.
+    MergeStores {
+        from: Name,
         to: Name,
     },
     /// Makes an image of so many sectors from a seed, and of it a rip that is `shift` samples late and has so many words
@@ -390,22 +404,49 @@ fn read_sums(alloc: Global, words: &[String]) -> Result<Command, WordsFail>
     }
 }
 
-// The words after INPUT of `split`: FOLDER.
-fn read_folder(alloc: Global, input: &String, words: &[String]) -> Result<Command, WordsFail>
-    ensures value { ReadsWords result (folder_words (string_bytes input.now) (texts words.now)) }
+// A word that names a folder names a file too, and ends in `/`.
+fn is_folder(word: &[u8]) -> bool
+    ensures { result ≡ is_folder word.now }
+{
+    is_name(word) && ends_in_slash(word)
+}
+
+// The last word, which is at this index: a folder.
+fn read_folder(alloc: Global, at: u32, words: &[String]) -> Result<Name, WordsFail>
+    requires { at + 1 < 2 ^ 32 }
+    ensures value { ReadsWords result (folder_word at (texts words.now)) }
+    ensures slash { IfOk result (λ folder. ends_in_slash folder ≡ true) }
+{
+    match words {
+        [] => Err(WordsFail::Usage { word: at }),
+        [folder, rest @ ..] => {
+            if !is_folder(folder.as_bytes()) {
+                return Err(WordsFail::Usage { word: at });
+            }
+            if !rest.is_empty() {
+                return Err(WordsFail::Usage { word: at + 1 });
+            }
+            name_of(alloc, folder)
+        }
+    }
+}
+
+// The words of `merge`: FROM and TO.
+fn read_merge(alloc: Global, words: &[String]) -> Result<Command, WordsFail>
+    ensures value { ReadsWords result (merge_words (texts words.now)) }
     ensures range { IfOk result (λ read. IfSome (offset_in read) IsOffset) }
     ensures trial { IfOk result TrialIsInRange }
     ensures names { IfOk result NamesMayStand }
 {
     match words {
-        [] => Err(WordsFail::Usage { word: 2 }),
-        [folder, rest @ ..] => {
-            if !is_name(folder.as_bytes()) || !ends_in_slash(folder.as_bytes()) {
-                return Err(WordsFail::Usage { word: 2 });
+        [] => Err(WordsFail::Usage { word: 1 }),
+        [from, rest @ ..] => {
+            if !is_folder(from.as_bytes()) {
+                return Err(WordsFail::Usage { word: 1 });
             }
-            let input = name_of(alloc, input)?;
-            let folder = name_of(alloc, folder)?;
-            no_word(3, Command::Split { input, folder }, rest)
+            let to = read_folder(alloc, 2, rest)?;
+            let from = name_of(alloc, from)?;
+            Ok(Command::MergeStores { from, to })
         }
     }
 }
@@ -423,7 +464,9 @@ fn read_split(alloc: Global, words: &[String]) -> Result<Command, WordsFail>
             if !is_name(input.as_bytes()) {
                 return Err(WordsFail::Usage { word: 1 });
             }
-            read_folder(alloc, input, rest)
+            let folder = read_folder(alloc, 2, rest)?;
+            let input = name_of(alloc, input)?;
+            Ok(Command::Split { input, folder })
         }
     }
 }
@@ -541,7 +584,7 @@ fn read_verb(alloc: Global, verb: Option<Verb>, words: &[String]) -> Result<Comm
 /// The command that the words are. `Usage` comes exactly where the grammar refuses, with the index of the first
 /// word that breaks a rule, or the number of words where one is missing. An offset that was read is from -5,879 to 5,879,
 /// and so is the shift of a trial; its sectors are from 30 to 9,000, and its hits at most 58,800. The folder of `split` ends
-/// in `/`, and the name of `join`'s file may stand in a sheet.
+/// in `/`, as those of `list`, `check` and `merge` do, and the name of `join`'s file may stand in a sheet.
 pub fn read_words(alloc: Global, words: &[String]) -> Result<Command, WordsFail>
     ensures value { ReadsWords result (command_reading (texts words.now)) }
     ensures offsets { IfOk result (λ read. IfSome (offset_in read) IsOffset) }
@@ -554,6 +597,13 @@ pub fn read_words(alloc: Global, words: &[String]) -> Result<Command, WordsFail>
             "sums" => read_sums(alloc, rest),
             "split" => read_split(alloc, rest),
             "join" => read_join(alloc, rest),
+            "list" => Ok(Command::ListStore {
+                folder: read_folder(alloc, 1, rest)?,
+            }),
+            "check" => Ok(Command::CheckStore {
+                folder: read_folder(alloc, 1, rest)?,
+            }),
+            "merge" => read_merge(alloc, rest),
             "trial" => read_trial(rest),
             word => read_verb(alloc, verb_of(word), rest),
         },

@@ -1,6 +1,7 @@
 // Names of files and folders.
 ghost use Rattle.std.specs.Prelude.{◌≡◌};
-ghost use Rattle.rip_words.specs.FileNames.{breaks_quotes, ends_in_slash, is_quotable, name_in_folder};
+ghost use Rattle.rip_basics.specs.FileNames.{ends_in_slash};
+ghost use Rattle.rip_words.specs.FileNames.{breaks_quotes, is_quotable, name_in_folder};
 
 // A name that ends in `/` is a folder's.
 pub(crate) fn ends_in_slash(name: &[u8]) -> bool

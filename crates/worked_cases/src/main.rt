@@ -8,7 +8,7 @@
 //!     NAME = MAKER ..         Puts a file into the folder, in place of one of that name (`makers` lists the makers). The
 //!                             name may have blanks. A line with ` = ` is always this one.
 //!     fail CALL N             The Nth call of the folder of this kind from here on fails: Size, ReadAt, Make, Append,
-//!                             Sync or Rename.
+//!                             Sync, Rename or List.
 //!     fail put N              The Nth put of the next run fails.
 //!     run WORDS               Runs these words of the command line, of which `""` is an empty one. Prints the line and
 //!                             the answer.

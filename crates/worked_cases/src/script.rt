@@ -51,6 +51,7 @@ fn call_named(name: &str) -> Result<ShelfCall, NotDone> {
         "Append" => Ok(ShelfCall::Append),
         "Sync" => Ok(ShelfCall::Sync),
         "Rename" => Ok(ShelfCall::Rename),
+        "List" => Ok(ShelfCall::List),
         _ => Err(NotDone),
     }
 }

@@ -1,6 +1,8 @@
 use Rattle.rip_engine.specs.Seen.{seen}
 use Rattle.rip_words.specs.Command.{command_reading, texts}
+use Rattle.rip_outside.proofs.FilesLaws.{when_told}
 use Rattle.rip_engine.proofs.AgainLaws.{read_again}
+use Rattle.rip_engine.proofs.MergeLaws.{merges_by, survives_by}
 use Rattle.rip_engine.proofs.StoredLaws.{stored_by}
 use Rattle.rip_engine.proofs.Headline.{finds_damaged_of, repairs_of}
 use Rattle.rip_engine.proofs.Ending.{decides, decides_without_files, read_has_cause, write_has_cause, sink_has_cause, memory_keeps, nothing_written, takes, trial_leaves, completes, done_told}
@@ -51,3 +53,13 @@ returns-clause-trial_leaves_files g c = trial_leaves (command_reading (texts c.a
 
 pub returns-clause-survives : goal.returns-clause-survives
 returns-clause-survives g c = safe_when _ _ _ _ _ (λ is. done_told c.tell_words-told.result _ _ _ _ c.print.result c.print.ensures is) c.tell_words-told.ensures.crashes
+
+pub returns-clause-merges : goal.returns-clause-merges
+returns-clause-merges g c = merges_by (command_reading (texts c.args.words.now)) (seen g.F.Shelf g.K.Sink c.args.files.now c.args.out.now) (seen g.F.Shelf g.K.Sink c.tell_words-told.new.shelf c.print.new.out) c.print.result (returns-clause-outcome g c)
+
+pub returns-clause-merge_survives : goal.returns-clause-merge_survives
+returns-clause-merge_survives g c =
+    let tells = g.met.F.Shelf.tells_held in
+    survives_by (command_reading (texts c.args.words.now)) c.print.result (g.F.Shelf.held c.args.files.now) (g.F.Shelf.held c.tell_words-told.new.shelf) (g.F.Shelf.crashes c.args.files.now) (g.F.Shelf.crashes c.tell_words-told.new.shelf)
+    (tells c.args.files.now) (tells c.tell_words-told.new.shelf) (returns-clause-survives g c)
+    (λ from to files is ended told. let merged = when_told (g.F.Shelf.held c.args.files.now) _ (returns-clause-merges g c from to is ended) files told in (merged.0, merged.1, merged.2))

@@ -14,6 +14,7 @@ returns-in_default-clause-value c =
     let own : c.as_str.result.now ≡ first = c.as_str.ensures.value in
     let reading : verb_words c.verb_of.result rest ≡ command_reading (texts words) =
     ap (λ v. verb_words v rest) (c.verb_of.ensures ∙ ap verb_of own)
-    ∙ sym (two_names first rest (λ is. c.in_default.not-sums (own ∙ is)) (λ is. c.in_default.not-split (own ∙ is)) (λ is. c.in_default.not-join (own ∙ is)) (λ is. c.in_default.not-trial (own ∙ is)))
+    ∙ sym (two_names first rest (λ is. c.in_default.not-sums (own ∙ is)) (λ is. c.in_default.not-split (own ∙ is)) (λ is. c.in_default.not-join (own ∙ is))
+    (λ is. c.in_default.not-list (own ∙ is)) (λ is. c.in_default.not-check (own ∙ is)) (λ is. c.in_default.not-merge (own ∙ is)) (λ is. c.in_default.not-trial (own ∙ is)))
     ∙ ap command_reading (sym (words_split words c.first-item.result c.in-len1-up.len_at_least c.first-item.is)) in
     subst (λ (meaning : Result Command ℕ). ReadsWords c.read_verb.result meaning) reading c.read_verb.ensures.value

@@ -1,0 +1,4 @@
+pub mod AddLaws
+pub mod HoldLaws
+pub mod NameLaws
+pub mod PlanLaws

@@ -1,0 +1,3 @@
+pub mod Holding
+pub mod MergeOutcome
+pub mod Planning
