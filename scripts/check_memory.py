@@ -13,12 +13,16 @@ program has to end by itself, and then
 After 40, 30 or 31 the same command is run with memory enough over what was left, and has to do what it does in a new
 folder.
 
+Of a batch, with 40 the whole parts of its first discs went out; with 29 a disc ended in the fault of an allocation inside
+a call of the folder; and whatever its number, each file but a `.part` is as it was or as the whole batch leaves it.
+
 The allocations are those of the C library's malloc, calloc, realloc and aligned_alloc, which a small library in front of
 it counts (LD_PRELOAD, made by `cc`). `check_memory.py PROGRAM` runs that program; else the one that `scripts/rip` built.
 Ends with 0 only if all is so.
 """
 
 import random
+import re
 import shutil
 import struct
 import subprocess
@@ -81,9 +85,20 @@ COMMANDS = [
     "merge store/ more/",
     "trial 30 7 0 0",
     "trial 100 7 -17 4",
+    "batch list.toml",
 ]
 
 FAULTS = {30: b"read fault\n", 31: b"write fault\n"}
+
+
+# The discs of the list: one that reads, one that writes, and one that reads what was written.
+LIST = """[[disc]]
+words = ["sums", "rips/disc.cue"]
+[[disc]]
+words = ["register", "disc.wav", "new.rpar"]
+[[disc]]
+words = ["verify", "second.wav", "new.rpar", "--offset=17"]
+"""
 
 
 def wav(audio):
@@ -92,8 +107,8 @@ def wav(audio):
 
 
 def make_files(folder, program):
-    """A disc of 100 sectors and its record, a rip of it that is 17 samples late and has a wrong word, a sheet, and two stores, of
-    which one has a good and two bad records and the other none."""
+    """A disc of 100 sectors and its record, a rip of it that is 17 samples late and has a wrong word, a sheet, two stores, of which
+    one has a good and two bad records and the other none, and a list of discs."""
     audio = random.Random(4).randbytes(100 * SECTOR_BYTES)
     late = bytearray(bytes(17 * 4) + audio[: -17 * 4])
     late[100_000] ^= 1
@@ -110,6 +125,7 @@ def make_files(folder, program):
     shutil.copyfile(folder / "disc.rpar", folder / "store" / "misnamed.rpar")
     (folder / "store" / "none.rpar").write_bytes(b"")
     (folder / "more").mkdir()
+    (folder / "list.toml").write_text(LIST)
 
 
 def held(folder):
@@ -159,6 +175,11 @@ class Runs:
             return False
         after = but_part(held(folder))
         told = f"allocation {nth}{' and later' if all_later else ''} refused: ends with {number}, prints {printed!r}"
+        if self.command.startswith("batch "):
+            if self.is_wrong_batch(number, printed, before, after, wanted):
+                self.wrong(told)
+            self.numbers[number] = self.numbers.get(number, 0) + 1
+            return True
         if number == 40 and (printed or after != before):
             self.wrong(told)
         elif number in FAULTS and (printed != FAULTS[number] or after != before):
@@ -173,6 +194,19 @@ class Runs:
             if (number, printed, but_part(held(folder))) != wanted:
                 self.wrong(f"after {told}: the same command ends with {number}, prints {printed!r}")
         return True
+
+    def is_wrong_batch(self, number, printed, before, after, wanted):
+        """Whether a batch ended so by no refused allocation."""
+        if any(content not in (before.get(name), wanted[2].get(name)) for name, content in after.items()) or before.keys() - after.keys():
+            return True
+        parts = re.split(rb"(?m)^(?=disc |batch )", wanted[1])
+        if number == 40:
+            return printed not in [b"".join(parts[:count]) for count in range(len(parts))]
+        if number == 30:
+            return printed != FAULTS[30] or after != before
+        if number == 29 and printed != wanted[1]:
+            return not re.search(rb"(read|write) fault\n", printed) or not re.search(rb"^batch discs 3 failed [123]\n$", printed, re.M)
+        return number != 32 and (number, printed, after) != wanted
 
     def check(self):
         folder = self.fresh()

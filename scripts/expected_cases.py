@@ -6,8 +6,8 @@
     .. --search CASE                           decides the searches of the case of this name too, some minutes each
 
 Decided are the words of the command line, what the readers of sheets, WAV files, layouts, records and responses refuse,
-the records that are stored, the upkeep of stores, and the matches with responses. Sums, trials and other searches are
-passed over, and a case is left at a call that fails.
+the records that are stored, the upkeep of stores, the matches with responses, and batches of these. Sums, trials and other
+searches are passed over, and a case is left at a call that fails.
 """
 
 import base64
@@ -16,6 +16,7 @@ import hashlib
 import re
 import struct
 import sys
+import tomllib
 
 import column_table as field
 import response_matches as response
@@ -136,6 +137,7 @@ COMMANDS = {
     "list": ([is_folder], None),
     "check": ([is_folder], None),
     "merge": ([is_folder] * 2, None),
+    "batch": ([is_name], None),
     "sums": ([is_name], None),
     "trial": ([is_number(4, 30, 9000), is_number(10, 0, 2**32 - 1), is_offset, is_number(5, 0, 58800)], None),
 }
@@ -635,10 +637,60 @@ def written_anew(files, command, to, layout, parts, names):
     return 0, f"split {to} tracks {len(starts)}" if command == "split" else f"joined {to} sectors {sectors}"
 
 
+def list_of(file):
+    """The words of each disc of a list."""
+    if len(file) > 1_048_576:
+        raise Refused(28, "list TooLong")
+    try:
+        document = tomllib.loads(file.removeprefix(b"\xef\xbb\xbf").decode())
+    except (UnicodeDecodeError, tomllib.TOMLDecodeError):
+        raise Refused(28, "list NotToml") from None
+    discs = document.get("disc")
+    if not isinstance(discs, list) or not discs:
+        raise Refused(28, "list NoDiscs")
+    if len(discs) > 1000:
+        raise Refused(28, "list TooMany")
+    for number, disc in enumerate(discs, 1):
+        words = disc.get("words") if isinstance(disc, dict) else None
+        if not isinstance(words, list) or not all(isinstance(word, str) for word in words):
+            raise Refused(28, f"list BadDisc {number}")
+        if words and words[0] == "batch":
+            raise Refused(28, f"list BadWords {number} word 0")
+        try:
+            check_words(words)
+        except Refused as refused:
+            raise Refused(28, f"list BadWords {number} word {refused.args[1].split()[-1]}") from None
+    return [disc["words"] for disc in discs]
+
+
+def batch_answer(files, name, is_searched):
+    """The answer of `batch`: each disc over the files that the one before left."""
+    if name not in files:
+        raise Refused(11, f"missing {name}")
+    lists, text, failed, undecided = list_of(files[name]), "", 0, False
+    for number, words in enumerate(lists, 1):
+        try:
+            status, told = answer(files, words, is_searched)
+        except Refused as refused:
+            status, told = refused.args
+        except Undecided:
+            undecided = True
+            continue
+        failed += status != 0
+        text += f"disc {number} number {status}\n{told}{chr(10) if told else ''}"
+        if len(text.encode()) > ROOM:
+            return 32, text
+    if undecided:
+        raise Undecided
+    return 29 if failed else 0, f"{text}batch discs {len(lists)} failed {failed}"
+
+
 def answer(files, words, is_searched):
     """The status and the text of a run."""
     check_words(words)
     command, *rest = words
+    if command == "batch":
+        return batch_answer(files, rest[0], is_searched)
     if command == "trial":
         raise Undecided
     if command in ("list", "check", "merge"):
@@ -676,6 +728,7 @@ def answer(files, words, is_searched):
     if command == "register":
         words = struct.unpack(f"<{len(audio) // 2}H", audio)
         files[name] = record_of(layout, parity_of(audio, int(option or 8)), seal_of(words, 0))
+        files.pop(f"{name}.part", None)
         return 0, f"registered {name} sectors {layout[2]} npar {option or 8}"
     return search_answer(command, audio, files[name], len(layout[1]), int(option) if option else None, rest, files)
 

@@ -6,13 +6,13 @@ ghost use Rattle.engine_steps.specs.Steps.{Does, Meets, OnlyRefuses, ReadsWithCa
 ghost use Rattle.cmd_match.specs.MatchOutcome.{AreRead, response_bytes};
 
 use accurip_match::{Response, ResponseFail, read_response};
-use engine_steps::{Stop, zero_bytes};
-use rip_outside::{Name, Shelf, ShelfCall};
+use engine_steps::{Found, Stop, read_up_to};
+use rip_outside::{Name, Shelf};
 use rip_report::{ResponseKind, Status};
 use std::alloc::Global;
 
 // The most bytes that a response has.
-const MOST_BYTES: u64 = 65_536;
+const MOST_BYTES: usize = 65_536;
 
 /// The bytes of the response of this name. One that has more than 65,536 isn't read.
 pub fn read_response_file<S: Shelf>(
@@ -26,29 +26,14 @@ pub fn read_response_file<S: Shelf>(
     ensures cause { ReadsWithCause (S.faults shelf.old) (S.faults shelf.new) result }
     ensures taken { IfSome (S.held shelf.old) (λ files. Takes (length (bytes_at name.now files)) result (S.taken shelf.old) (S.taken shelf.new)) }
 {
-    let size = match shelf.size(name) {
-        Ok(Some(size)) => size,
-        Ok(None) => {
-            let name = Name::copied(alloc, name)?;
-            return Err(Stop::Refused(Status::NoResponse { name }));
-        }
-        Err(_) => {
-            return Err(Stop::ReadFault {
-                call: ShelfCall::Size,
-            });
-        }
-    };
-    if size > MOST_BYTES {
-        return Err(Stop::Refused(Status::ResponseRefused {
+    match read_up_to(alloc, shelf, name, MOST_BYTES)? {
+        Found::Bytes { bytes } => Ok(bytes),
+        Found::TooLong => Err(Stop::Refused(Status::ResponseRefused {
             kind: ResponseKind::TooLong,
-        }));
-    }
-    let mut bytes = zero_bytes(alloc, size as usize)?;
-    match shelf.read_at(name, 0, &mut bytes) {
-        Ok(()) => Ok(bytes),
-        Err(_) => Err(Stop::ReadFault {
-            call: ShelfCall::ReadAt,
-        }),
+        })),
+        Found::Absent => Err(Stop::Refused(Status::NoResponse {
+            name: Name::copied(alloc, name)?,
+        })),
     }
 }
 

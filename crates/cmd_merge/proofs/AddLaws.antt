@@ -14,7 +14,8 @@ use Rattle.rip_outside.specs.Outputs.{Output, after_outputs, part_of}
 use Rattle.store_upkeep.specs.Entries.{entries_in, entry_state, state_of_bytes}
 use Rattle.store_upkeep.specs.Looking.{is_good}
 use Rattle.store_upkeep.proofs.EntryLaws.{entries_differ, entries_held}
-use Rattle.engine_outputs.proofs.FollowLaws.{AreFresh, IsOtherName, next_free, pairs_head, pairs_tail, put_other}
+use Rattle.engine_outputs.proofs.FollowLaws.{AreFresh, IsOtherName, next_free, pairs_head, pairs_tail}
+use Rattle.rip_outside.proofs.OutputLaws.{IsApartFrom, put_other}
 use Rattle.cmd_merge.specs.declared.fate.Fate.{Fate}
 use Rattle.cmd_merge.specs.declared.fate.Fate.TheVariants.{Added, Same, Differs, Skipped}
 use Rattle.cmd_merge.specs.declared.planning.Planned.{Planned}
@@ -25,11 +26,6 @@ use Rattle.engine_outputs.proofs.OneMoreLaws.{Fits}
 use Rattle.cmd_merge.proofs.NameLaws.{IsNamed, good_named, named_no_part, target_differs}
 
 -- ---- files that are put, and what follows them
-
--- a name that is neither an output's nor its part's
-abbrev pub IsApartFrom : List ℕ → List Output → Type 0
-IsApartFrom name [] = Unit {0}
-IsApartFrom name (out ∷ outs) = (name ≢ part_of out.name) × (name ≢ out.name) × IsApartFrom name outs
 
 pub get_follows : (outs : List Output) (i : ℕ) (name : List ℕ) (files : Files) → IsApartFrom name outs → get (after_outputs (take i outs) files) name ≡ get files name
 get_follows outs zero name files apart = refl

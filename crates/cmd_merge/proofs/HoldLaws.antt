@@ -7,19 +7,14 @@ use Rattle.std.proofs.lemmas.List.{length-map}
 use Rattle.rip_outside.specs.Files.{Files, IsHeld, after_put}
 use Rattle.rip_outside.specs.Outputs.{Output, after_outputs, part_of}
 use Rattle.rip_outside.proofs.FilesLaws.{get-insert_same}
-use Rattle.engine_outputs.proofs.FollowLaws.{pairs_head, pairs_tail, put_other}
+use Rattle.engine_outputs.proofs.FollowLaws.{pairs_head, pairs_tail}
+use Rattle.rip_outside.proofs.OutputLaws.{IsApartFrom, other_stays}
 use Rattle.store_upkeep.specs.Entries.{entries_in}
 use Rattle.store_upkeep.proofs.EntryLaws.{entries_held}
 use Rattle.cmd_merge.specs.Holding.{HoldsBoth, IsNewRecord}
 use Rattle.cmd_merge.specs.MergeOutcome.{fate_of, is_added, merge_output, merge_outputs, target}
-use Rattle.cmd_merge.proofs.AddLaws.{IsAddition, IsApartFrom, added, added_differ, additions, named, outputs}
+use Rattle.cmd_merge.proofs.AddLaws.{IsAddition, added, added_differ, additions, named, outputs}
 use Rattle.cmd_merge.proofs.NameLaws.{target_differs, target_no_part}
-
--- what is neither an output's name nor its part's stays
-pub other_stays : (outs : List Output) (name : List ℕ) (files : Files) → IsApartFrom name outs → get (after_outputs outs files) name ≡ get files name
-other_stays [] name files apart = refl
-other_stays (out ∷ outs) name files apart =
-    other_stays outs name (after_put (part_of out.name) out.name out.bytes files) apart.2 ∙ put_other (part_of out.name) out.name out.bytes name files apart.0 apart.1
 
 -- no later output and no later part has its name
 abbrev pub AreOwn : List Output → Type 0

@@ -6,6 +6,7 @@ use Rattle.std.proofs.lemmas.List.Elements.{All-cons, All-head, All-nil, All-tai
 use Rattle.rip_outside.specs.Files.{Files, after_put, bytes_at}
 use Rattle.rip_outside.specs.Outputs.{Output, after_outputs, part_of}
 use Rattle.rip_outside.proofs.FilesLaws.{get-insert_other, get-remove_other, get-remove_same, same_or_other}
+use Rattle.rip_outside.proofs.OutputLaws.{put_other}
 use Rattle.wav_frames.specs.Opening.{wav_words}
 use Rattle.wav_frames.specs.Wav.{wav_bytes}
 use Rattle.image_mender.specs.declared.image.Part.{Part}
@@ -13,9 +14,6 @@ use Rattle.image_mender.specs.Joined.{AreInFiles, IsInFile, joined_words, part_w
 use Rattle.track_split.specs.Tracks.{files_named}
 
 -- ---- one file that is put under a name that wasn't held
-
-pub put_other : (part out bytes q : List ℕ) (files : Files) → q ≢ part → q ≢ out → get (after_put part out bytes files) q ≡ get files q
-put_other part out bytes q files apart other = get-insert_other (remove files part) out bytes q other ∙ get-remove_other files part q apart
 
 -- a name that isn't held isn't held afterwards either
 pub put_free : (part out bytes q : List ℕ) (files : Files) → q ≢ out → get files q ≡ None → get (after_put part out bytes files) q ≡ None

@@ -12,7 +12,7 @@ use Rattle.wav_frames.proofs.ReadingLaws.{wav_reading-plain, wav_words-plain}
 use Rattle.rip_inputs.specs.Opening.{wav_opened, wavs_opened}
 use Rattle.track_split.specs.Tracks.{files_named}
 use Rattle.track_split.proofs.NameLaws.{IsAbout}
-use Rattle.engine_outputs.proofs.FollowLaws.{put_other}
+use Rattle.rip_outside.proofs.OutputLaws.{put_other}
 
 -- one name isn't that of a later output, nor of its part
 abbrev pub IsApart : List ℕ → List ℕ → Type 0

@@ -1,5 +1,5 @@
 -- The steps of a command: each refuses with a status, or finds what the next one goes on with.
-use Rattle.std.specs.Prelude.{◌≡◌, ℕ, ◌+◌, ◌≤◌, Bool, List, [], ◌∷◌, ◌++◌, Result, Ok, Err, Option, None, Some, is_some, nat_lt, if◌then◌else◌}
+use Rattle.std.specs.Prelude.{◌≡◌, ℕ, ◌+◌, ◌<◌, ◌≤◌, Bool, List, [], ◌∷◌, ◌++◌, length, vec_len, Result, Ok, Err, Option, None, Some, is_some, nat_lt, if◌then◌else◌}
 use Rattle.std.specs.List.{find, list_any}
 use Rattle.std.specs.Str.{bytes_eq}
 use Rattle.std.specs.FinMap.{get}
@@ -23,6 +23,8 @@ use Rattle.rip_inputs.specs.declared.rip.RipFail.TheVariants.{Missing as NoFile,
 use Rattle.rip_outside.specs.Outputs.{part_of}
 use Rattle.rip_report.specs.declared.status.Status.{Status}
 use Rattle.rip_report.specs.declared.status.Status.TheVariants.{Done, Missing, CueRefused, WavRefused, LayoutRefused, NoRecord, RecordRefused, OutExists, OtherLayout, ReadFault, WriteFault as PutFault, SinkFault, WantOfMemory}
+use Rattle.engine_steps.specs.declared.files.Found.{Found}
+use Rattle.engine_steps.specs.declared.files.Found.TheVariants.{Absent, TooLong, Bytes}
 use Rattle.engine_steps.specs.declared.steps.Answer.{Answer}
 use Rattle.engine_steps.specs.declared.steps.Stop.{Stop}
 use Rattle.engine_steps.specs.declared.steps.Stop.TheVariants.{Refused, ReadFault as ReadStop, WriteFault as WriteStop, Oom as WantStop}
@@ -121,6 +123,18 @@ first_taken None None = Ok tt
 -- The outputs' names are free: none is held, and no part of them is one of the names that the run reads.
 abbrev pub free : List (List ℕ) → List (List ℕ) → Files → Result (Unit {0}) Status
 free outs read files = first_taken (find (λ out. is_some (get files out)) outs) (part_read outs read)
+
+-- what stands under a name of which at most so many bytes are read
+abbrev pub IsFound : ℕ → Option (List ℕ) → Found → Type 0
+IsFound most held Absent = held ≡ None
+IsFound most held TooLong = (bytes : List ℕ) × (held ≡ Some bytes) × (most < length bytes)
+IsFound most held (Bytes bytes) = held ≡ Some bytes.items
+
+-- what was read has at most so many bytes
+abbrev pub HasAtMost : ℕ → Found → Type 0
+HasAtMost most Absent = Unit {0}
+HasAtMost most TooLong = Unit {0}
+HasAtMost most (Bytes bytes) = vec_len bytes ≤ most
 
 -- ---- what a call that does a step answers
 

@@ -3,11 +3,13 @@
 
 mod buffers;
 mod comparing;
+mod files;
 mod replacing;
 mod steps;
 
 pub use buffers::{PIECE, zero_bytes, zero_words};
 pub use comparing::{Compared, compare};
+pub use files::{Found, read_up_to};
 pub use replacing::replace_out;
 pub use steps::{
     Answer, Stop, check_free, check_layout, find_record, is_among, is_read, mend_stop, open_input,

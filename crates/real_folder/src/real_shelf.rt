@@ -279,6 +279,8 @@ impl<R: Files<File = File> + Eprint> Shelf for RealShelf<'_, R> {
 }
 
 impl<R: Files<File = File> + Eprint + AllocGlobal> Folder for RealShelf<'_, R> {
+    ghost use Rattle.real_folder.specs.KnownNames.{known_at, nothing};
+
     fn list(&mut self, alloc: Global, folder: &str) -> Result<Names, ShelfFail>
         ensures inside { IfOk result (λ names. All (λ name. stands_in folder.now name ≡ true) names) }
         ensures ordered { IfOk result (λ names. IsStrictlySortedBy (slice_cmp nat_cmp) names) }
@@ -288,5 +290,18 @@ impl<R: Files<File = File> + Eprint + AllocGlobal> Folder for RealShelf<'_, R> {
     {
         let names = list_files(self.rt, alloc, folder);
         self.counted_or_oom(ShelfCall::List, folder, names)
+    }
+
+    // The lock of a file that was begun is let go too.
+    fn forget(&mut self)
+        ensures known { (name : List ℕ) → known_at self.new.known name ≡ nothing }
+        ensures reading { self.new.reading ≡ None }
+        ensures writing { self.new.writing ≡ None }
+        ensures faults { self.new.faults ≡ self.old.faults }
+        ensures taken { self.new.taken ≡ self.old.taken }
+    {
+        self.known = KnownNames::new(self.alloc);
+        self.reading = None;
+        self.writing = None;
     }
 }

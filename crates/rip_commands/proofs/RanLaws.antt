@@ -1,5 +1,5 @@
 -- What is told of a command, from what its steps came to.
-use Rattle.std.specs.Prelude.{Result, Ok, Err, IsOk}
+use Rattle.std.specs.Prelude.{Result, Ok, Err, IfOk, IsOk}
 use Rattle.std.proofs.Common.{◌≡◌, ◌≢◌, ◌⊎◌, ℕ, List, [], ◌∷◌, Option, Some, IfSome, Result, Ok, Err, refl, sym, ◌∙◌, arith, inl, inr, ap, subst, None, ℤ}
 use Rattle.rip_outside.specs.Files.{Files}
 use Rattle.rip_outside.specs.Outputs.{Output, after_outputs}
@@ -7,20 +7,26 @@ use Rattle.rip_outside.specs.Causes.{NoneFell}
 use Rattle.rip_commands.specs.Look.{Look}
 use Rattle.rip_outside.proofs.FilesLaws.{if_told}
 use Rattle.rip_outside.specs.declared.fault.ShelfCall.{ShelfCall}
+use Rattle.rip_outside.specs.Crashes.{Outlook}
 use Rattle.rip_outside.specs.declared.fault.ShelfCall.TheVariants.{Rename}
-use Rattle.engine_steps.specs.Steps.{EndsWithCause, Takes, IsStepRefusal, compared}
+use Rattle.engine_steps.specs.Steps.{EndsWithCause, IsAnswered, Takes, IsStepRefusal, compared}
 use Rattle.engine_steps.specs.Outcome.{Outcome, Partly, refused, Leaves}
 use Rattle.rip_commands.specs.Outcomes.{IsOutcomeOf, IsMostCompared, IsMostTaken}
 use Rattle.rip_inputs.specs.Opening.{lengths_of}
 use Rattle.engine_steps.specs.Comparing.{compared_names}
 use Rattle.engine_search.specs.Agreement.{TakesCompared}
 use Rattle.std.specs.FinMap.{empty}
-use Rattle.rip_commands.specs.Ran.{Comes, FaultsOfCommand, IsTrialRead, NeedsNoFile, Ran, TellsOf, ToldWithoutFiles, telling, wanting}
+use Rattle.rip_commands.specs.Ran.{Comes, FaultsOfCommand, IsTold, IsTrialRead, NeedsNoFile, NoneRose, Ran, TellsOf, ToldWithoutFiles, telling, wanting}
+use Rattle.engine_steps.proofs.CrashingLaws.{safe_none}
 use Rattle.engine_steps.proofs.Leaving.{stands_some}
 use Rattle.rip_report.specs.Texts.{read_fault_line, refusal_line, write_fault_line}
+use Rattle.column_map.specs.Columns.{IsOffset}
+use Rattle.rip_words.specs.Command.{MayRunCommand, NamesMayStand, ReadsWords, TrialIsInRange, offset_in}
 use Rattle.rip_words.specs.declared.Command.{Command}
+use Rattle.rip_words.specs.declared.WordsFail.{WordsFail}
+use Rattle.rip_words.specs.declared.WordsFail.TheVariants.{Usage as UsageFail}
 use Rattle.rip_report.specs.declared.status.Status.{Status}
-use Rattle.rip_report.specs.declared.status.Status.TheVariants.{Usage, ReadFault, WriteFault, Done, WantOfMemory}
+use Rattle.rip_report.specs.declared.status.Status.TheVariants.{Usage, ReadFault, WriteFault, Done, SinkFault, WantOfMemory}
 use Rattle.engine_steps.specs.declared.steps.Answer.{Answer}
 use Rattle.engine_steps.specs.declared.steps.Stop.{Stop}
 use Rattle.engine_steps.specs.declared.steps.Stop.TheVariants.{Refused, ReadFault as ReadStop, WriteFault as WriteStop, Oom as WantStop}
@@ -202,3 +208,56 @@ done_came (Err (Refused status)) told before now cause tells is = elim tells [
 done_came (Err (ReadStop call)) told before now cause tells is = let clash : ReadFault call ≡ Done = sym (ap (λ (a : Answer). a.status) tells) ∙ is in let no : ⊥ = cc in absurd no
 done_came (Err (WriteStop call)) told before now cause tells is = let clash : WriteFault call ≡ Done = sym (ap (λ (a : Answer). a.status) tells) ∙ is in let no : ⊥ = cc in absurd no
 done_came (Err WantStop) told before now cause tells is = let clash : WantOfMemory ≡ Done = sym (ap (λ (a : Answer). a.status) tells) ∙ is in let no : ⊥ = cc in absurd no
+
+-- a status is an answer, a fault or want of memory
+pub status_kind : (s : Status) → IsAnswered s ⊎ ((call : ShelfCall) × (s ≡ ReadFault call)) ⊎ ((call : ShelfCall) × (s ≡ WriteFault call)) ⊎ (s ≡ SinkFault) ⊎ (s ≡ WantOfMemory)
+status_kind (ReadFault call) = inr (inl (call, refl))
+status_kind (WriteFault call) = inr (inr (inl (call, refl)))
+status_kind SinkFault = inr (inr (inr (inl refl)))
+status_kind WantOfMemory = inr (inr (inr (inr refl)))
+status_kind _ = inl tt
+
+-- where no call failed and no memory was wanting, a status is an answer
+pub answered_unless : (read : Result Command ℕ) (before now : Look) (told : Answer) → Ran read before now told → NoneRose before now → told.status ≢ WantOfMemory → IsAnswered told.status
+answered_unless read before now told ran none some = elim (status_kind told.status) [
+  | inl answered ↦ answered
+  | inr rest ↦ elim rest [
+    | inl read_so ↦ absurd (none read_so.0 (ran.read_fault read_so.0 read_so.1).0.rose)
+    | inr rest' ↦ elim rest' [
+      | inl write_so ↦ absurd (none write_so.0 (ran.write_fault write_so.0 write_so.1).0.rose)
+      | inr rest'' ↦ elim rest'' [ inl sink ↦ absurd (ran.no_sink sink) | inr want ↦ absurd (some want) ]
+    ]
+  ]
+]
+
+-- a command that was read and may be run
+pub may_run : {E : Type 0} (r : Result Command E) → IfOk r (λ command. IfSome (offset_in command) IsOffset) → IfOk r TrialIsInRange → IfOk r NamesMayStand → IfOk r MayRunCommand
+may_run (Ok command) offset trial names = record { offset = offset; trial = trial; names = names }
+may_run (Err fail) offset trial names = tt
+
+-- ---- the words of one command
+
+-- what is read, where a command was, or a word breaks a rule
+pub reads_command : (asked : Result Command WordsFail) (command : Command) (read : Result Command ℕ) → asked ≡ Ok command → ReadsWords asked read → read ≡ Ok command
+reads_command asked command read was is = subst (λ (a : Result Command WordsFail). ReadsWords a read) was is
+
+pub reads_usage : (asked : Result Command WordsFail) (word : ℕ) (read : Result Command ℕ) → asked ≡ Err (UsageFail word) → ReadsWords asked read → read ≡ Err word
+reads_usage asked word read was is = subst (λ (a : Result Command WordsFail). ReadsWords a read) was is
+
+-- nothing was done for want of memory
+pub told_wanting : (read : Result Command ℕ) (before : Look) (outlook : Outlook) (told : Answer) → told ≡ wanting → IsTold read before before outlook outlook told
+told_wanting read before outlook told is = record {
+  ran = ran_none read before told is;
+  crashes = safe_none _ _ _;
+  no_file = no_file_none read told is;
+  names = λ done. let clash : WantOfMemory ≡ Done = sym (ap (λ (a : Answer). a.status) is) ∙ done in let no : ⊥ = cc in absurd no;
+}
+
+-- nothing was done, for words that are refused
+pub told_usage : (word : ℕ) (before : Look) (outlook : Outlook) (told : Answer) → (told ≡ telling (Usage word) (refusal_line (Usage word))) ⊎ (told ≡ wanting) → IsTold (Err word) before before outlook outlook told
+told_usage word before outlook told is = record {
+  ran = ran_usage word before told is;
+  crashes = safe_none _ _ _;
+  no_file = no_file_usage word told is;
+  names = λ _. tt;
+}

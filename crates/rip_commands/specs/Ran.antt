@@ -1,21 +1,25 @@
 -- What a run of one command comes to, before it is printed: by the shelf before it and after it, and by what is told.
-use Rattle.std.specs.Prelude.{◌≡◌, ◌≢◌, ◌⊎◌, ℕ, ◌+◌, ◌≤◌, List, [], Result, Ok, Err, Some, IfSome, ℤ}
+use Rattle.std.specs.Prelude.{◌≡◌, ◌≢◌, ◌⊎◌, ℕ, ◌+◌, ◌≤◌, List, [], Result, Ok, Err, IfOk, Some, IfSome, ℤ}
 use Rattle.std.specs.FinMap.{empty}
 use Rattle.rip_outside.specs.Outputs.{after_outputs}
 use Rattle.rip_outside.specs.Causes.{NoneFell, Rose, IsReadCall, IsWriteCall}
 use Rattle.rip_commands.specs.Look.{Look}
 use Rattle.rip_outside.specs.declared.fault.ShelfCall.{ShelfCall}
 use Rattle.rip_outside.specs.declared.fault.ShelfCall.TheVariants.{Rename}
+use Rattle.engine_steps.specs.Crashing.{CrashSafe}
 use Rattle.engine_steps.specs.Steps.{IsAnswered}
 use Rattle.engine_steps.specs.Outcome.{LeavesPart, Outcome, Partly, refused}
 use Rattle.rip_commands.specs.Outcomes.{IsOutcomeOf, IsMostTaken}
 use Rattle.rip_report.specs.Texts.{read_fault_line, refusal_line, write_fault_line}
+use Rattle.rip_outside.specs.Crashes.{Outlook}
+use Rattle.rip_words.specs.Command.{NamesMayStand}
 use Rattle.rip_words.specs.declared.Command.{Command}
 use Rattle.rip_words.specs.declared.Command.TheVariants.{Trial}
 use Rattle.rip_report.specs.declared.status.Status.{Status}
-use Rattle.rip_report.specs.declared.status.Status.TheVariants.{ReadFault, WriteFault, SinkFault, WantOfMemory}
+use Rattle.rip_report.specs.declared.status.Status.TheVariants.{Done, ReadFault, WriteFault, SinkFault, WantOfMemory}
 use Rattle.engine_steps.specs.declared.steps.Answer.{Answer}
 use Rattle.engine_steps.specs.declared.steps.Stop.{Stop}
+use Rattle.rip_commands.specs.declared.FaultLines.{FaultLines}
 use Rattle.engine_steps.specs.declared.steps.Stop.TheVariants.{Refused, ReadFault as ReadStop, WriteFault as WriteStop, Oom as WantStop}
 
 -- a command that calls the shelf: any but a trial
@@ -103,6 +107,10 @@ TellsOf (Err (ReadStop call)) told = told ≡ telling (ReadFault call) read_faul
 TellsOf (Err (WriteStop call)) told = told ≡ telling (WriteFault call) write_fault_line
 TellsOf (Err WantStop) told = told ≡ wanting
 
+-- the lines that are told of faults
+abbrev pub AreFaultLines : FaultLines → Type 0
+AreFaultLines lines = (lines.read ≡ read_fault_line) × (lines.write ≡ write_fault_line)
+
 -- ---- what needs no file
 
 -- an answer or a refusal is an outcome's
@@ -115,3 +123,12 @@ Comes is (Err stop) = Unit {0}
 abbrev pub ToldWithoutFiles : Result Command ℕ → Answer → Type 0
 ToldWithoutFiles read told = IsAnswered told.status → NeedsNoFile read →
     (outcome : Outcome) × IsOutcomeOf read empty outcome × (outcome.status ≡ told.status) × (outcome.text ≡ told.text)
+
+-- ---- the words of one command
+
+-- What the words of one command come to but for the printing, by the shelf before and after, and by what a stop may leave of it.
+pub record IsTold (read : Result Command ℕ) (before now : Look) (outlook later : Outlook) (told : Answer) : Type 0 where
+  pub ran : Ran read before now told
+  pub crashes : CrashSafe (IsOutcomeOf read) (told.status ≡ Done) outlook later
+  pub no_file : ToldWithoutFiles read told
+  pub names : told.status ≡ Done → IfOk read NamesMayStand

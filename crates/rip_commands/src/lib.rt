@@ -1,5 +1,7 @@
-//! The commands, one beside the other: what each comes to, and a whole run of one but for its printing.
+//! The commands, one beside the other: what each comes to, a whole run of one, and the printing of what is told.
 #![tactic(auto)]
+
+mod printing;
 
 ghost use Rattle.std.specs.Prelude.{◌≡◌, ◌⊎◌, ℕ, Result, Ok, IfSome, IfOk, IsOk};
 ghost use Rattle.rip_outside.specs.Files.{Files};
@@ -9,14 +11,14 @@ ghost use Rattle.std.specs.FinMap.{empty};
 ghost use Rattle.rip_outside.specs.Causes.{NoneFell};
 ghost use Rattle.rip_commands.specs.Look.{look};
 ghost use Rattle.column_map.specs.Columns.{IsOffset};
-ghost use Rattle.rip_words.specs.Command.{NamesMayStand, TrialIsInRange, offset_in};
+ghost use Rattle.rip_words.specs.Command.{MayRunCommand, NamesMayStand, ReadsWords, TrialIsInRange, command_reading, offset_in, texts};
 ghost use Rattle.rip_report.specs.Texts.{read_fault_line, refusal_line, write_fault_line};
 ghost use Rattle.engine_steps.specs.Steps.{EndsWithCause, Takes};
 ghost use Rattle.rip_commands.specs.Outcomes.{IsCommandOutcome, IsOutcomeOf, IsMostTaken};
 ghost use Rattle.engine_steps.specs.Outcome.{Leaves};
 ghost use Rattle.engine_steps.specs.Crashing.{CrashSafe};
 ghost use Rattle.rip_report.specs.declared.status.Status.{Status};
-ghost use Rattle.rip_commands.specs.Ran.{Comes, FaultsOfCommand, IsTrialRead, NeedsNoFile, Ran, TellsOf, ToldWithoutFiles, wanting, telling};
+ghost use Rattle.rip_commands.specs.Ran.{AreFaultLines, Comes, FaultsOfCommand, IsTold, IsTrialRead, NeedsNoFile, Ran, TellsOf, ToldWithoutFiles, wanting, telling};
 
 use cmd_join::join;
 use cmd_match::match_sums;
@@ -31,9 +33,10 @@ use cmd_trial::trial;
 use cmd_upgrade::upgrade;
 use cmd_verify::verify;
 use engine_steps::{Answer, Stop};
+pub use printing::{print, report};
 use rip_outside::{Folder, Text};
 use rip_report::{Status, refusal_text};
-use rip_words::Command;
+use rip_words::{Command, WordsFail, read_command};
 use std::alloc::{AllocError, Global};
 
 // Does a command, but for what is told of it.
@@ -120,10 +123,29 @@ pub fn refuse(alloc: Global, status: Status) -> Answer
     }
 }
 
-// What is told of what a command came to. The lines of faults were made before the command began.
-fn told_of(alloc: Global, came: Result<Answer, Stop>, read_line: Text, write_line: Text) -> Answer
-    requires read { read_line ≡ read_fault_line }
-    requires write { write_line ≡ write_fault_line }
+/// The lines that are told of faults. They are made before a command begins, so that a fault is told even where no more memory is
+/// to be had.
+#[derive(Debug, Drop)]
+pub struct FaultLines {
+    /// The line of a call that reads.
+    pub read: Text,
+    /// The line of a call that writes.
+    pub write: Text,
+}
+
+/// The lines that are told of faults, or want of memory.
+pub fn fault_lines(alloc: Global) -> Result<FaultLines, AllocError>
+    ensures { IfOk result AreFaultLines }
+{
+    Ok(FaultLines {
+        read: line_of(alloc, "read fault\n")?,
+        write: line_of(alloc, "write fault\n")?,
+    })
+}
+
+/// What is told of what a command came to.
+pub fn told_of(alloc: Global, came: Result<Answer, Stop>, lines: FaultLines) -> Answer
+    requires { AreFaultLines lines }
     ensures { TellsOf came result }
 {
     match came {
@@ -131,11 +153,11 @@ fn told_of(alloc: Global, came: Result<Answer, Stop>, read_line: Text, write_lin
         Err(Stop::Refused(status)) => refuse(alloc, status),
         Err(Stop::ReadFault { call }) => Answer {
             status: Status::ReadFault { call },
-            text: read_line,
+            text: lines.read,
         },
         Err(Stop::WriteFault { call }) => Answer {
             status: Status::WriteFault { call },
-            text: write_line,
+            text: lines.write,
         },
         Err(Stop::Oom) => wanting(alloc),
     }
@@ -151,14 +173,34 @@ pub fn tell<F: Folder>(alloc: Global, command: Command, shelf: &mut F) -> Answer
     ensures crashes { CrashSafe (IsOutcomeOf (Ok command)) (result.status ≡ Status.Done) (F.crashes shelf.old) (F.crashes shelf.new) }
     ensures no_file { ToldWithoutFiles (Ok command) result }
 {
-    let Ok(read_line) = line_of(alloc, "read fault\n") else {
-        return wanting(alloc);
-    };
-    let Ok(write_line) = line_of(alloc, "write fault\n") else {
+    let Ok(lines) = fault_lines(alloc) else {
         return wanting(alloc);
     };
     let came = perform(alloc, command, shelf);
-    told_of(alloc, came, read_line, write_line)
+    told_of(alloc, came, lines)
+}
+
+/// Does what the words of one command ask for, by what was read of them, but for the printing. Words that were refused are told so.
+pub fn tell_asked<F: Folder>(
+    alloc: Global,
+    asked: Result<Command, WordsFail>,
+    shelf: &mut F,
+) -> Answer
+    requires { IfOk asked MayRunCommand }
+    ensures { (read : Result Command ℕ) → ReadsWords asked read → IsTold read (look F.Shelf shelf.old) (look F.Shelf shelf.new) (F.crashes shelf.old) (F.crashes shelf.new) result }
+{
+    match asked {
+        Ok(command) => tell(alloc, command, shelf),
+        Err(WordsFail::Usage { word }) => refuse(alloc, Status::Usage { word }),
+        Err(WordsFail::Oom) => wanting(alloc),
+    }
+}
+
+/// Does what these words of one command ask for, but for the printing.
+pub fn tell_words<F: Folder>(alloc: Global, words: &[String], shelf: &mut F) -> Answer
+    ensures { IsTold (command_reading (texts words.now)) (look F.Shelf shelf.old) (look F.Shelf shelf.new) (F.crashes shelf.old) (F.crashes shelf.new) result }
+{
+    tell_asked(alloc, read_command(alloc, words), shelf)
 }
 
 /// The law of outcomes: the words, by their reading, and the files have at most one outcome, which is a status, a text and

@@ -23,7 +23,7 @@ use Rattle.cmd_split.specs.SplitOutcome.{IsSplitOutcome, split_in}
 use Rattle.rip_commands.specs.Outcomes.{IsOutcomeOf}
 use Rattle.rip_engine.specs.Again.{DiscIsReadAgain}
 use Rattle.rip_engine.specs.Run.{OutcomeDecides}
-use Rattle.rip_engine.specs.Seen.{Seen}
+use Rattle.rip_commands.specs.Seen.{Seen}
 
 -- a name that is taken ends the command with another status
 not_taken : (held part : Option (List ℕ)) (P : Outcome → Type 0) (outcome : Outcome) → Then (first_taken held part) (λ _ o. P o) outcome → outcome.status ≡ Done → P outcome

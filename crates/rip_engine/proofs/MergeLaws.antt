@@ -19,8 +19,9 @@ use Rattle.cmd_merge.specs.MergeOutcome.{IsMergeOutcome, merge_outputs}
 use Rattle.cmd_merge.proofs.HoldLaws.{holds_both}
 use Rattle.rip_commands.specs.Outcomes.{IsOutcomeOf}
 use Rattle.rip_engine.specs.Merging.{MergeHoldsBoth, MergeIsSafe, MergeSurvives}
-use Rattle.rip_engine.specs.Run.{OutcomeDecides, Wrote}
-use Rattle.rip_engine.specs.Seen.{Seen}
+use Rattle.rip_engine.specs.Run.{OutcomeDecides}
+use Rattle.rip_commands.specs.Printing.{Wrote}
+use Rattle.rip_commands.specs.Seen.{Seen}
 
 pub merges_by : (read : Result Command ℕ) (before after : Seen) (status : Status) → OutcomeDecides read before after status → MergeHoldsBoth read before after status
 merges_by read before after status decides from to is ended = if_told before.held _ (λ files told.

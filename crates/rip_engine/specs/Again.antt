@@ -1,7 +1,7 @@
 -- That a disc which was split or joined is read again as it was.
 use Rattle.std.specs.Prelude.{◌≡◌, ℕ, ◌≤◌, List, ◌++◌, length, Result, Ok, Some, IfSome, codes}
 use Rattle.rip_outside.specs.Files.{Files}
-use Rattle.rip_engine.specs.Seen.{Seen}
+use Rattle.rip_commands.specs.Seen.{Seen}
 use Rattle.rip_inputs.specs.Opening.{IsReadAs, Opened, rip_reading}
 use Rattle.rip_words.specs.FileNames.{name_in_folder}
 use Rattle.rip_words.specs.declared.Command.{Command}

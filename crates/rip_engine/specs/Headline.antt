@@ -4,7 +4,7 @@ use Rattle.std.specs.FinMap.{get}
 use Rattle.rip_outside.specs.Files.{Files}
 use Rattle.rip_outside.specs.Outputs.{part_of}
 use Rattle.rip_outside.specs.Causes.{Rose}
-use Rattle.rip_engine.specs.Seen.{Seen}
+use Rattle.rip_commands.specs.Seen.{Seen}
 use Rattle.rip_outside.specs.declared.fault.ShelfCall.{ShelfCall}
 use Rattle.column_map.specs.Columns.{IsOffset, WordTable, per_column, place, rip_word, stride, table_of_image}
 use Rattle.column_map.specs.Image.{IsImage}
@@ -22,7 +22,7 @@ use Rattle.rip_words.specs.declared.Command.{Command}
 use Rattle.rip_words.specs.declared.Command.TheVariants.{Offsets, Repair}
 use Rattle.rip_report.specs.declared.status.Status.{Status}
 use Rattle.rip_report.specs.declared.status.Status.TheVariants.{Done, WantOfMemory}
-use Rattle.rip_engine.specs.Run.{Wrote}
+use Rattle.rip_commands.specs.Printing.{Wrote}
 
 -- ---- what `repair` writes
 

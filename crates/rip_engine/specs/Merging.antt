@@ -9,8 +9,8 @@ use Rattle.rip_words.specs.declared.Command.{Command}
 use Rattle.rip_words.specs.declared.Command.TheVariants.{MergeStores}
 use Rattle.rip_report.specs.declared.status.Status.{Status}
 use Rattle.rip_report.specs.declared.status.Status.TheVariants.{Done}
-use Rattle.rip_engine.specs.Run.{Wrote}
-use Rattle.rip_engine.specs.Seen.{Seen}
+use Rattle.rip_commands.specs.Printing.{Wrote}
+use Rattle.rip_commands.specs.Seen.{Seen}
 
 -- After `merge` is done, both stores' records are held and nothing else is new, and what became of each entry was told.
 abbrev pub MergeHoldsBoth : Result Command ℕ → Seen → Seen → Status → Type 0

@@ -223,4 +223,8 @@ impl Folder for MemoryShelf {
             .names_in(alloc, folder)
             .map_err(|_| ShelfFail::Oom)
     }
+
+    fn forget(&mut self)
+        ensures after { self.new ≡ self.old }
+    {}
 }

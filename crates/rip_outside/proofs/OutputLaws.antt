@@ -1,6 +1,6 @@
 -- Several files are put under their names, one after another.
-use Rattle.std.proofs.Common.{◌≡◌, ℕ, zero, suc, ◌+◌, ◌<◌, List, [], ◌∷◌, length, take, slice_get, Contains, Some, refl, sym, ◌∙◌, ap, inl, inr, arith}
-use Rattle.std.specs.FinMap.{get}
+use Rattle.std.proofs.Common.{◌≡◌, ◌≢◌, ℕ, zero, suc, ◌+◌, ◌<◌, List, [], ◌∷◌, ◌++◌, length, take, slice_get, Contains, Some, refl, sym, ◌∙◌, ap, inl, inr, arith}
+use Rattle.std.specs.FinMap.{get, remove}
 use Rattle.rip_outside.specs.Files.{Files, after_put}
 use Rattle.rip_outside.specs.Crashes.{Crashes, IsSettled, EachMoment, StoresWhole, PutsWhole}
 use Rattle.rip_outside.specs.Outputs.{Output, part_of, parts_of, after_outputs, StandsUpTo, MayStand, PutsSome}
@@ -102,3 +102,25 @@ puts_all outs m well a b so_far = record {
   moments = so_far.moments;
   settled = λ settled _. so_far.settled settled;
 }
+
+-- ---- names that outputs leave alone
+
+-- a name that is neither the one nor its part
+pub put_other : (part out bytes q : List ℕ) (files : Files) → q ≢ part → q ≢ out → get (after_put part out bytes files) q ≡ get files q
+put_other part out bytes q files apart other = get-insert_other (remove files part) out bytes q other ∙ get-remove_other files part q apart
+
+-- a name that is neither an output's nor its part's
+abbrev pub IsApartFrom : List ℕ → List Output → Type 0
+IsApartFrom name [] = Unit {0}
+IsApartFrom name (out ∷ outs) = (name ≢ part_of out.name) × (name ≢ out.name) × IsApartFrom name outs
+
+-- it stays
+pub other_stays : (outs : List Output) (name : List ℕ) (files : Files) → IsApartFrom name outs → get (after_outputs outs files) name ≡ get files name
+other_stays [] name files apart = refl
+other_stays (out ∷ outs) name files apart =
+    other_stays outs name (after_put (part_of out.name) out.name out.bytes files) apart.2 ∙ put_other (part_of out.name) out.name out.bytes name files apart.0 apart.1
+
+-- outputs after outputs
+pub outputs_more : (outs others : List Output) (files : Files) → after_outputs (outs ++ others) files ≡ after_outputs others (after_outputs outs files)
+outputs_more [] others files = refl
+outputs_more (out ∷ outs) others files = outputs_more outs others (after_put (part_of out.name) out.name out.bytes files)

@@ -22,4 +22,12 @@ pub trait Folder: Shelf {
         ensures crashes { WhereForetold Rests (Self.crashes self.old) (Self.crashes self.new) }
         ensures cause { HasCause ShelfCall.List (Self.faults self.old) (Self.faults self.new) (IsErrOf result ShelfFail.Failed) }
         ensures taken { Self.taken self.new ≡ Self.taken self.old };
+
+    /// A command begins after others: what a shelf keeps by itself of the calls before, such as which file was read last, is
+    /// forgotten, as in a new one. Nothing that is held or counted changes.
+    fn forget(&mut self)
+        ensures same { Self.held self.new ≡ Self.held self.old }
+        ensures crashes { WhereForetold Rests (Self.crashes self.old) (Self.crashes self.new) }
+        ensures faults { Self.faults self.new ≡ Self.faults self.old }
+        ensures taken { Self.taken self.new ≡ Self.taken self.old };
 }

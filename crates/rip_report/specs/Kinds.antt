@@ -1,6 +1,8 @@
 -- The kinds of refusals as they are printed, each by its name.
 use Rattle.std.specs.Prelude.{ℕ, List, ◌++◌, codes}
 use Rattle.std.specs.Fmt.{decimal}
+use Rattle.batch_list.specs.declared.fail.ListKind.{ListKind}
+use Rattle.batch_list.specs.declared.fail.ListKind.TheVariants.{TooLong as TooLongList, NotToml, NoDiscs, TooMany, BadDisc, BadWords}
 use Rattle.cue_sheet.specs.declared.fail.CueKind.{CueKind}
 use Rattle.cue_sheet.specs.declared.fail.CueKind.TheVariants.{SheetTooLong, UnknownWord, BadQuote, NameNotText, NotWave as NotWaveFile, TooManyFiles, NoFile, BadNumber, DataTrack, TrackOrder, NoTrack, IndexOrder, BadTime, NoIndex01, LatePregap, Postgap, NoTracks}
 use Rattle.wav_frames.specs.declared.fail.WavKind.{WavKind}
@@ -71,6 +73,15 @@ record_kind_text Digest = codes "Digest"
 abbrev pub response_kind_text : ResponseKind → List ℕ
 response_kind_text TooLongResponse = codes "TooLong"
 response_kind_text (Cut at) = codes "Cut at " ++ decimal at
+
+-- why a list of discs is refused
+abbrev pub list_kind_text : ListKind → List ℕ
+list_kind_text TooLongList = codes "TooLong"
+list_kind_text NotToml = codes "NotToml"
+list_kind_text NoDiscs = codes "NoDiscs"
+list_kind_text TooMany = codes "TooMany"
+list_kind_text (BadDisc disc) = codes "BadDisc " ++ decimal disc
+list_kind_text (BadWords disc word) = codes "BadWords " ++ decimal disc ++ codes " word " ++ decimal word
 
 -- in which part two layouts differ
 abbrev pub layout_part_text : LayoutPart → List ℕ

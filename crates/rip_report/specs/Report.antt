@@ -3,18 +3,19 @@ use Rattle.std.specs.Prelude.{◌≡◌, ℕ, List, length, ⊤}
 use Rattle.rip_report.specs.declared.report.Report.{Report}
 use Rattle.rip_report.specs.declared.report.Report.TheVariants.{Registered, Verified, Mendable, Offsets, Written, Upgraded, SumsOf, Matched, TrialOf, Refusal, SplitInto, Joined}
 use Rattle.rip_report.specs.declared.status.Status.{Status}
-use Rattle.rip_report.specs.declared.status.Status.TheVariants.{Done, BadRecords, Mendable as MendableStatus, SinkFault, WantOfMemory}
+use Rattle.rip_report.specs.declared.status.Status.TheVariants.{Done, BadRecords, BatchFailed, Mendable as MendableStatus, SinkFault, WantOfMemory}
 use Rattle.disc_toc.specs.Toc.{toc_of}
 use Rattle.rip_report.specs.Matches.{matches_text}
 use Rattle.rip_report.specs.Sums.{sums_text}
 use Rattle.rip_report.specs.Trial.{trial_lines}
 use Rattle.rip_report.specs.Texts.{joined_line, mendable_text, offsets_text, refusal_line, registered_line, split_line, upgraded_text, verified_text, written_text}
 
--- a status that is told as a refusal: three have texts of their own, and two are ends at which nothing is printed
+-- a status that is told as a refusal: four have texts of their own, and two are ends at which nothing is printed
 abbrev pub IsRefusal : Status → Type 0
 IsRefusal Done = ⊥
 IsRefusal (MendableStatus offset errors columns) = ⊥
 IsRefusal (BadRecords bad) = ⊥
+IsRefusal (BatchFailed failed) = ⊥
 IsRefusal SinkFault = ⊥
 IsRefusal WantOfMemory = ⊥
 IsRefusal _ = ⊤

@@ -1,11 +1,11 @@
 -- The printed texts, and the exit numbers.
 use Rattle.std.specs.Prelude.{ℕ, suc, List, [], ◌∷◌, ◌++◌, codes, flat_map, ℤ, pos, negsuc}
 use Rattle.std.specs.Fmt.{decimal}
-use Rattle.rip_report.specs.Kinds.{cue_kind_text, layout_kind_text, layout_part_text, record_kind_text, response_kind_text, wav_kind_text}
+use Rattle.rip_report.specs.Kinds.{cue_kind_text, layout_kind_text, layout_part_text, list_kind_text, record_kind_text, response_kind_text, wav_kind_text}
 use Rattle.disc_toc.specs.declared.difference.LayoutPart.{LayoutPart}
 use Rattle.column_map.specs.declared.candidate.Candidate.{Candidate}
 use Rattle.rip_report.specs.declared.status.Status.{Status}
-use Rattle.rip_report.specs.declared.status.Status.TheVariants.{Done, Usage, Missing, CueRefused, WavRefused, LayoutRefused, NoRecord, RecordRefused, OutExists, OtherLayout, Sealed, NoCandidate, Several, NotNear, Mendable, SealDiffers, NoResponse, ResponseRefused, BadRecords, ReadFault, WriteFault, SinkFault, WantOfMemory}
+use Rattle.rip_report.specs.declared.status.Status.TheVariants.{Done, Usage, Missing, CueRefused, WavRefused, LayoutRefused, NoRecord, RecordRefused, OutExists, OtherLayout, Sealed, NoCandidate, Several, NotNear, Mendable, SealDiffers, NoResponse, ResponseRefused, BadRecords, ListRefused, BatchFailed, ReadFault, WriteFault, SinkFault, WantOfMemory}
 
 -- each line ends with a line feed
 abbrev pub line : List ℕ → List ℕ
@@ -42,7 +42,7 @@ other_layout_line part rip kept = line (codes "other layout " ++ layout_part_tex
 abbrev pub several_line : ℤ → ℤ → List ℕ
 several_line first second = line (codes "several " ++ offset_text first ++ codes " " ++ offset_text second)
 
--- The lines of a refusal. Success and bad records have texts of their commands' own, and the last two statuses print nothing.
+-- The lines of a refusal. Success, bad records and failed discs have texts of their commands' own, and the last two statuses print nothing.
 abbrev pub refusal_line : Status → List ℕ
 refusal_line (Usage word) = line (codes "usage word " ++ decimal word)
 refusal_line (Missing name) = line (codes "missing " ++ name)
@@ -61,9 +61,11 @@ refusal_line (Mendable offset errors columns) = candidate_line offset errors col
 refusal_line SealDiffers = line (codes "seal differs")
 refusal_line (NoResponse name) = line (codes "no response " ++ name)
 refusal_line (ResponseRefused kind) = line (codes "response " ++ response_kind_text kind)
+refusal_line (ListRefused kind) = line (codes "list " ++ list_kind_text kind)
 refusal_line (ReadFault call) = read_fault_line
 refusal_line (WriteFault call) = write_fault_line
 refusal_line (BadRecords bad) = []
+refusal_line (BatchFailed failed) = []
 refusal_line Done = []
 refusal_line SinkFault = []
 refusal_line WantOfMemory = []
@@ -104,6 +106,14 @@ split_line folder tracks = line (codes "split " ++ folder ++ codes " tracks " ++
 abbrev pub joined_line : List ℕ → ℕ → List ℕ
 joined_line name sectors = line (codes "joined " ++ name ++ codes " sectors " ++ decimal sectors)
 
+-- what `batch` prints of a disc: a line with its number in the list, counted from 1, and that of its status, and then the disc's own text
+abbrev pub disc_part : ℕ → ℕ → List ℕ → List ℕ
+disc_part disc number text = line (codes "disc " ++ decimal disc ++ codes " number " ++ decimal number) ++ text
+
+-- what `batch` prints last: how many discs the list has, and how many of them weren't done
+abbrev pub batch_line : ℕ → ℕ → List ℕ
+batch_line discs failed = line (codes "batch discs " ++ decimal discs ++ codes " failed " ++ decimal failed)
+
 -- the number with which the program ends
 abbrev pub exit_number : Status → ℕ
 exit_number Done = 0
@@ -125,6 +135,8 @@ exit_number SealDiffers = 24
 exit_number (NoResponse name) = 25
 exit_number (ResponseRefused kind) = 26
 exit_number (BadRecords bad) = 27
+exit_number (ListRefused kind) = 28
+exit_number (BatchFailed failed) = 29
 exit_number (ReadFault call) = 30
 exit_number (WriteFault call) = 31
 exit_number SinkFault = 32

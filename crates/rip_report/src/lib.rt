@@ -1,6 +1,7 @@
 //! All that the program prints, and the numbers with which it ends.
 #![tactic(auto)]
 
+mod batch;
 mod kinds;
 mod matches;
 mod refusals;
@@ -11,6 +12,7 @@ mod sums;
 mod texts;
 mod trial;
 
+pub use batch::{batch_line, disc_part};
 pub use refusals::refusal_text;
 pub use report::{Report, TrialResult, text_of};
 pub use status::{ResponseKind, Status};

@@ -3,6 +3,7 @@ ghost use Rattle.std.specs.Prelude.{◌≡◌, IfOk};
 ghost use Rattle.std.specs.String.{string_bytes};
 ghost use Rattle.rip_report.specs.Texts.{cue_line, other_layout_line, refusal_line, wav_line};
 
+use crate::batch::list_line;
 use crate::kinds::{cue_kind_name, wav_kind_name};
 use crate::status::{ResponseKind, Status};
 use crate::texts::{mendable_lines, printed, several_line};
@@ -131,15 +132,19 @@ pub(crate) fn refusal_lines(alloc: Global, status: &Status) -> Result<String, Al
             format!(in alloc; "no response {name}\n")
         }
         Status::ResponseRefused { kind } => response_line(alloc, *kind),
+        Status::ListRefused { kind } => list_line(alloc, *kind),
         Status::ReadFault { call: _ } => String::from_str(alloc, "read fault\n"),
         Status::WriteFault { call: _ } => String::from_str(alloc, "write fault\n"),
-        Status::BadRecords { bad: _ } | Status::Done | Status::SinkFault | Status::WantOfMemory =>
-            String::from_str(alloc, ""),
+        Status::BadRecords { bad: _ }
+        | Status::BatchFailed { failed: _ }
+        | Status::Done
+        | Status::SinkFault
+        | Status::WantOfMemory => String::from_str(alloc, ""),
     }
 }
 
-/// The text of a refusal, or Oom for want of memory. Success, bad records, a failed output and want of memory have
-/// no line.
+/// The text of a refusal, or Oom for want of memory. Success, bad records, failed discs, a failed output and want of memory
+/// have no line.
 pub fn refusal_text(alloc: Global, status: &Status) -> Result<Text, Oom>
     ensures { IfOk result (λ text. text ≡ refusal_line status.now) }
 {

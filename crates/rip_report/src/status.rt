@@ -2,6 +2,7 @@
 ghost use Rattle.std.specs.Prelude.{◌≡◌};
 ghost use Rattle.rip_report.specs.Texts.{exit_number};
 
+use batch_list::ListKind;
 use cue_sheet::CueKind;
 use disc_toc::{Differs, LayoutKind};
 use parity_store::RecordKind;
@@ -96,6 +97,14 @@ pub enum Status {
     BadRecords {
         bad: u64,
     },
+    /// The list of discs isn't read.
+    ListRefused {
+        kind: ListKind,
+    },
+    /// So many discs of a list weren't done.
+    BatchFailed {
+        failed: u32,
+    },
     /// A call that reads failed.
     ReadFault {
         call: ShelfCall,
@@ -146,6 +155,8 @@ impl Status {
             Status::NoResponse { name: _ } => 25,
             Status::ResponseRefused { kind: _ } => 26,
             Status::BadRecords { bad: _ } => 27,
+            Status::ListRefused { kind: _ } => 28,
+            Status::BatchFailed { failed: _ } => 29,
             Status::ReadFault { call: _ } => 30,
             Status::WriteFault { call: _ } => 31,
             Status::SinkFault => 32,

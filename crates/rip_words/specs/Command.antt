@@ -1,5 +1,5 @@
 -- The words of the command line.
-use Rattle.std.specs.Prelude.{IsUtf8, true, None, ◌≡◌, ℕ, ◌+◌, ◌==◌, ◌&&◌, nat_eq, nat_le, ◌≤◌, Bool, false, not, List, [], ◌∷◌, length, drop, Result, Ok, Err, codes, map, String, if◌then◌else◌, Option, Some, unwrap_or, ℤ}
+use Rattle.std.specs.Prelude.{IfSome, IsUtf8, true, None, ◌≡◌, ℕ, ◌+◌, ◌==◌, ◌&&◌, nat_eq, nat_le, ◌≤◌, Bool, false, not, List, [], ◌∷◌, length, drop, Result, Ok, Err, codes, map, String, if◌then◌else◌, Option, Some, unwrap_or, ℤ}
 use Rattle.std.specs.List.{starts_with}
 use Rattle.std.specs.Str.{all_ascii_digits, bytes_eq}
 use Rattle.std.specs.Str.Parse.{digits_value, signed_digits_value, without_leading_sign}
@@ -12,6 +12,8 @@ use Rattle.rip_basics.specs.FileNames.{ends_in_slash}
 use Rattle.rip_words.specs.FileNames.{is_quotable, name_in_folder}
 use Rattle.column_map.specs.declared.npar.Npar.{Npar}
 use Rattle.column_map.specs.declared.npar.Npar.TheVariants.{Four, Eight, Sixteen, ThirtyTwo}
+use Rattle.rip_words.specs.declared.Request.{Request}
+use Rattle.rip_words.specs.declared.Request.TheVariants.{One, Batch}
 use Rattle.rip_words.specs.declared.Verb.{Verb}
 use Rattle.rip_words.specs.declared.Verb.TheVariants.{Register as ToRegister, Verify as ToVerify, Offsets as ToOffsets, Repair as ToRepair, Upgrade as ToUpgrade, MatchSums as ToMatchSums}
 use Rattle.rip_words.specs.declared.WordsFail.{WordsFail}
@@ -204,6 +206,23 @@ command_reading (first ∷ rest) =
     else if bytes_eq first (codes "trial") then trial_words rest
     else verb_words (verb_of first) rest
 
+-- ---- what the words ask for
+
+-- the request for one command
+abbrev pub one_command : Result Command ℕ → Result Request ℕ
+one_command (Ok command) = Ok (One command)
+one_command (Err word) = Err word
+
+-- the words after `batch`: LIST
+abbrev pub batch_words : List (List ℕ) → Result Request ℕ
+batch_words [] = Err 1
+batch_words (list ∷ rest) = if is_name list then end_of_words 2 (Batch list) rest else Err 1
+
+-- One command or a list of them, or the index of the first word that breaks a rule, or the number of words where one is missing.
+abbrev pub request_reading : List (List ℕ) → Result Request ℕ
+request_reading [] = Err 0
+request_reading (first ∷ rest) = if bytes_eq first (codes "batch") then batch_words rest else one_command (command_reading (first ∷ rest))
+
 -- what is read is the meaning of the words
 abbrev pub ReadsWords : {A : Type 0} → Result A WordsFail → Result A ℕ → Type 0
 ReadsWords (Ok read) meaning = meaning ≡ Ok read
@@ -266,3 +285,14 @@ NamesMayStand (CheckStore folder) = ends_in_slash folder ≡ true
 NamesMayStand (MergeStores from to) = (ends_in_slash from ≡ true) × (ends_in_slash to ≡ true)
 NamesMayStand (Join input to) = (is_quotable (name_in_folder to) ≡ true) × IsUtf8 (name_in_folder to)
 NamesMayStand (Trial sectors seed shift hits) = Unit {0}
+
+-- a command that may be run: its offset and its numbers are in range, and its names may stand
+pub record MayRunCommand (command : Command) : Type 0 where
+  pub offset : IfSome (offset_in command) IsOffset
+  pub trial : TrialIsInRange command
+  pub names : NamesMayStand command
+
+-- one command is such a one; those of a list are read later
+abbrev pub MayRun : Request → Type 0
+MayRun (One command) = MayRunCommand command
+MayRun (Batch list) = Unit {0}

@@ -6,7 +6,7 @@ ghost use Rattle.std.specs.Str.Parse.{without_leading_sign};
 ghost use Rattle.std.specs.String.{string_bytes};
 ghost use Rattle.column_map.specs.Columns.{IsOffset};
 ghost use Rattle.rip_basics.specs.FileNames.{ends_in_slash};
-ghost use Rattle.rip_words.specs.Command.{NamesMayStand, ReadsWords, TrialIsInRange, command_reading, command_words, hits_of, input_words, is_folder, is_name, last_option, no_word, npar_option, number_of, offset_in, offset_of, offset_option, option_words, out_words, record_words, sectors_of, seed_of, sums_words, texts, trial_words, verb_of, verb_words, file_words, folder_word, join_words, merge_words, split_words};
+ghost use Rattle.rip_words.specs.Command.{MayRun, NamesMayStand, ReadsWords, TrialIsInRange, batch_words, command_reading, command_words, hits_of, input_words, is_folder, is_name, last_option, no_word, npar_option, number_of, offset_in, one_command, request_reading, offset_of, offset_option, option_words, out_words, record_words, sectors_of, seed_of, sums_words, texts, trial_words, verb_of, verb_words, file_words, folder_word, join_words, merge_words, split_words};
 
 mod naming;
 
@@ -16,7 +16,7 @@ use naming::{ends_in_slash, is_quotable};
 use rip_basics::Name;
 use std::alloc::Global;
 
-/// What the words ask for.
+/// A command that is run by itself.
 #[derive(Debug, Drop, PartialEq, Eq)]
 pub enum Command {
     /// Stores the parity of the rip INPUT under the name REC.
@@ -90,7 +90,16 @@ pub enum Command {
     },
 }
 
-/// Why the words are no command.
+/// What the words ask for.
+#[derive(Debug, Drop, PartialEq, Eq)]
+pub enum Request {
+    /// One command.
+    One { command: Command },
+    /// The commands of the list LIST, one after another.
+    Batch { list: Name },
+}
+
+/// Why the words ask for nothing that can be done.
 #[derive(Debug, Drop, PartialEq, Eq)]
 pub enum WordsFail {
     /// The word with this index breaks a rule, or is missing.
@@ -285,7 +294,7 @@ fn read_out(
 }
 
 // The words after INPUT and REC, or RESP.
-fn read_command(
+fn read_options(
     alloc: Global,
     verb: Verb,
     input: &String,
@@ -351,7 +360,7 @@ fn read_record(
             if !is_name(rec.as_bytes()) {
                 return Err(WordsFail::Usage { word: 2 });
             }
-            read_command(alloc, verb, input, rec, rest)
+            read_options(alloc, verb, input, rec, rest)
         }
     }
 }
@@ -581,11 +590,11 @@ fn read_verb(alloc: Global, verb: Option<Verb>, words: &[String]) -> Result<Comm
     }
 }
 
-/// The command that the words are. `Usage` comes exactly where the grammar refuses, with the index of the first
-/// word that breaks a rule, or the number of words where one is missing. An offset that was read is from -5,879 to 5,879,
+/// The command that the words are: any but `batch`, which no list may hold. `Usage` comes exactly where the grammar refuses,
+/// with the index of the first word that breaks a rule, or the number of words where one is missing. An offset that was read is from -5,879 to 5,879,
 /// and so is the shift of a trial; its sectors are from 30 to 9,000, and its hits at most 58,800. The folder of `split` ends
 /// in `/`, as those of `list`, `check` and `merge` do, and the name of `join`'s file may stand in a sheet.
-pub fn read_words(alloc: Global, words: &[String]) -> Result<Command, WordsFail>
+pub fn read_command(alloc: Global, words: &[String]) -> Result<Command, WordsFail>
     ensures value { ReadsWords result (command_reading (texts words.now)) }
     ensures offsets { IfOk result (λ read. IfSome (offset_in read) IsOffset) }
     ensures trials { IfOk result TrialIsInRange }
@@ -607,5 +616,55 @@ pub fn read_words(alloc: Global, words: &[String]) -> Result<Command, WordsFail>
             "trial" => read_trial(rest),
             word => read_verb(alloc, verb_of(word), rest),
         },
+    }
+}
+
+// The request for the one command that the words are.
+fn one_command(alloc: Global, words: &[String]) -> Result<Request, WordsFail>
+    ensures value { ReadsWords result (one_command (command_reading (texts words.now))) }
+    ensures runs { IfOk result MayRun }
+{
+    Ok(Request::One {
+        command: read_command(alloc, words)?,
+    })
+}
+
+// The words of `batch`: LIST.
+fn read_batch(alloc: Global, words: &[String]) -> Result<Request, WordsFail>
+    ensures value { ReadsWords result (batch_words (texts words.now)) }
+    ensures runs { IfOk result MayRun }
+{
+    match words {
+        [] => Err(WordsFail::Usage { word: 1 }),
+        [list, rest @ ..] => {
+            if !is_name(list.as_bytes()) {
+                return Err(WordsFail::Usage { word: 1 });
+            }
+            if !rest.is_empty() {
+                return Err(WordsFail::Usage { word: 2 });
+            }
+            Ok(Request::Batch {
+                list: name_of(alloc, list)?,
+            })
+        }
+    }
+}
+
+/// What the words ask for: one command, or a list of commands. `Usage` comes exactly where the grammar refuses, with the index
+/// of the first word that breaks a rule, or the number of words where one is missing. A command that was read has its numbers
+/// in range and names that may stand, as `read_command` says.
+pub fn read_words(alloc: Global, words: &[String]) -> Result<Request, WordsFail>
+    ensures value { ReadsWords result (request_reading (texts words.now)) }
+    ensures runs { IfOk result MayRun }
+{
+    match words {
+        [] => Err(WordsFail::Usage { word: 0 }),
+        [first, rest @ ..] => {
+            if first.as_str() == "batch" {
+                read_batch(alloc, rest)
+            } else {
+                one_command(alloc, words)
+            }
+        }
     }
 }

@@ -4,7 +4,7 @@ use Rattle.std.specs.String.{string_bytes}
 use Rattle.rip_words.specs.Command.{ReadsWords, command_reading, texts, verb_of, verb_words}
 use Rattle.rip_words.specs.declared.Command.{Command}
 use Rattle.rip_words.proofs.FirstWord.{two_names, words_split}
-use Rattle.rip_words.proofs.read_words.Goals as goal
+use Rattle.rip_words.proofs.read_command.Goals as goal
 
 pub returns-in_default-clause-value : goal.returns-in_default-clause-value
 returns-in_default-clause-value c =

@@ -1,0 +1,11 @@
+pub mod ApartLaws
+pub mod ChainLaws
+pub mod CountLaws
+pub mod EndLaws
+pub mod IndependenceLaws
+pub mod ListLaws
+pub mod OutcomeLaws
+pub mod PartLaws
+pub mod SameLaws
+pub mod SoFar
+pub mod TakenLaws

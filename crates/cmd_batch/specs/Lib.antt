@@ -1,0 +1,4 @@
+pub mod Apart
+pub mod Batch
+pub mod BatchOutcome
+pub mod Inner
