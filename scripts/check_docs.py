@@ -2,13 +2,16 @@
 """Runs the examples of README.md and docs/, and sees that they print what they say.
 
 - A session is an indented block in which `$ ` stands before each command; what a command prints stands behind it. All
-  sessions of a document are run in one shell, in a folder with the made files below.
+  sessions of a document are run in one shell, in a folder with the made files below. The sessions behind a line
+  `<!-- needs TOOL -->`, up to the next paragraph, are left out where one of these tools isn't there.
 - The examples of the manual page are run in such a folder too, and `man` has to read the page without a warning.
-- Each row of the tables of answers, in docs/GUIDE.md and docs/FORMATS.md, has to be met by a run that ends with its
-  number, and each of these runs has to print what its row says. The manual page names the same numbers.
+- Each row of the tables of exit codes, in docs/GUIDE.md and docs/FORMATS.md, has to be met by a run that ends with its
+  code, and each of these runs has to print what its row says. The manual page names the same codes.
 - Files, crates, definitions and lemmas that the documents name have to be there.
+- README.md has at most 2,400 words, and none of its sentences more than 40. Code and tables aren't counted as sentences.
 
-`check_docs.py PROGRAM` runs that program; else the one that `scripts/rip` built. Ends with 0 only if all is so.
+`check_docs.py PROGRAM` runs that program; else the one that `scripts/rip` built. Without a program it looks at the names
+and at README.md's words, and says so. Ends with 0 only if all is so.
 """
 
 import hashlib
@@ -114,6 +117,10 @@ ANSWERS = [
 # What no run here causes: want of memory, which scripts/check_memory.py does, and a rip of more than 99 minutes.
 NOT_CAUSED = {40}
 
+# The documents whose sessions are run, and those whose names are looked up.
+RUN = ("README.md", "docs/GUIDE.md", "docs/FORMATS.md", "docs/FAQ.md")
+NAMING = (*RUN, "docs/ARCHITECTURE.md", "docs/PROOF.md", "docs/BENCHMARKS.md", "docs/DECISIONS.md", "docs/CONTRIBUTING.md", "CHANGELOG.md")
+
 problems = []
 
 
@@ -138,6 +145,13 @@ def second_rip(disc):
     return bytes(late)
 
 
+# Where the commands of a session are looked for, behind `rip` itself.
+TOOLS = "/usr/bin:/bin"
+
+# What README.md may have.
+MOST_WORDS = 2_400
+LONGEST_SENTENCE = 40
+
 SHEET = 'FILE "01.wav" WAVE\n  TRACK 01 AUDIO\n    INDEX 01 00:00:00\nFILE "02.wav" WAVE\n  TRACK 02 AUDIO\n    INDEX 01 00:00:00\n'
 
 
@@ -161,20 +175,76 @@ def make_files(program, folder, audio):
     (rips / "01.wav").write_bytes(wav(one))
     (rips / "02.wav").write_bytes(wav(two))
     (rips / "disc.cue").write_text(SHEET)
-    (folder / "responses").mkdir()
-    make_response(folder, (0, (0, 250), 550), one + two)
+    make_response(folder, "responses/", ((0, 12, 1), (664, 4, 0)), one + two)
+    make_archive(folder, chance)
+    make_odd_files(folder, one, two)
 
 
-def make_response(folder, layout, audio):
-    """A response for the disc: a block with its sums v2, and one of a pressing that is 664 samples late, with sums v1."""
+# The small discs of docs/FAQ.md: the sectors of their tracks. The key of the last one begins with a dot.
+ARCHIVE = {"Blue Train": [150, 120], "Kind of Blue": [100, 130], "Moanin": [160, 90, 112]}
+
+
+def tracks_sheet(lengths):
+    return "".join(f'FILE "{t:02}.wav" WAVE\n  TRACK {t:02} AUDIO\n    INDEX 01 00:00:00\n' for t in range(1, len(lengths) + 1))
+
+
+def write_tracks(folder, lengths, audio):
+    folder.mkdir(parents=True)
+    (folder / "disc.cue").write_text(tracks_sheet(lengths))
+    for t, sectors in enumerate(lengths, 1):
+        (folder / f"{t:02}.wav").write_bytes(wav(audio[: sectors * SECTOR_BYTES]))
+        audio = audio[sectors * SECTOR_BYTES :]
+
+
+def make_archive(folder, chance):
+    """A folder of small discs in tracks, and a later rip of each, 6 samples late: one whole, one with two wrong words, one
+    with far more than can be mended."""
+    for title, lengths in ARCHIVE.items():
+        audio = chance.randbytes(sum(lengths) * SECTOR_BYTES)
+        write_tracks(folder / "archive" / title, lengths, audio)
+        late = bytearray(bytes(6 * SAMPLE_BYTES) + audio[: -6 * SAMPLE_BYTES])
+        if title == "Kind of Blue":
+            late[2 * STRIDE_BYTES] ^= 1
+            late[3 * STRIDE_BYTES + 500] ^= 1
+        if title == "Moanin":
+            late[100 * SECTOR_BYTES : 200 * SECTOR_BYTES] = chance.randbytes(100 * SECTOR_BYTES)
+        write_tracks(folder / "later" / title, lengths, bytes(late))
+
+
+def make_odd_files(folder, one, two):
+    """Files of the disc of two tracks that some command refuses, or finds unlike the registered rip."""
+    odd = folder / "odd"
+    # its second track has its first 12 samples twice
+    write_tracks(odd / "slipped", [250, 300], one + two[: 12 * SAMPLE_BYTES] + two[: -12 * SAMPLE_BYTES])
+    make_response(folder, "odd/responses/", ((0, 9, 0),), one + two)
+    (odd / "silent.wav").write_bytes(wav(bytes(100 * SECTOR_BYTES)))
+    streamed = bytearray(wav(one + two))
+    streamed[40:44] = b"\xff\xff\xff\xff"
+    (odd / "streamed.wav").write_bytes(streamed)
+    (odd / "café.wav").write_bytes(wav(one + two))
+    sheet = 'PERFORMER "André"\nFILE "café.wav" WAVE\n  TRACK 01 AUDIO\n    INDEX 01 00:00:00\n'
+    (odd / "latin.cue").write_bytes(sheet.encode("cp1252"))
+    (odd / "wide.cue").write_bytes(sheet.encode("utf-16"))
+    # two seconds before the first track: in a file, and in none
+    (odd / "from-zero.wav").write_bytes(wav(one + two))
+    (odd / "from-track.wav").write_bytes(wav((one + two)[150 * SECTOR_BYTES :]))
+    (odd / "hidden.cue").write_text('FILE "from-zero.wav" WAVE\nTRACK 01 AUDIO\nINDEX 00 00:00:00\nINDEX 01 00:02:00\n')
+    (odd / "pregap.cue").write_text('FILE "from-track.wav" WAVE\nTRACK 01 AUDIO\nPREGAP 00:02:00\nINDEX 01 00:00:00\n')
+
+
+def make_response(folder, name, pressings, audio):
+    """A response for the disc of two tracks, in the folder of this name: a block for each pressing, which is so many samples
+    late, has this confidence, and sums v1 (0) or v2 (1)."""
+    layout = (0, (0, 250), 550)
     samples = response.samples_of(struct.unpack(f"<{len(audio) // 2}H", audio))
     tracks, *ids = response.ids_of(layout)
     blocks = b""
-    for offset, confidence, kind in ((0, 12, 1), (664, 4, 0)):
+    for offset, confidence, kind in pressings:
         blocks += struct.pack("<BIII", tracks, *ids)
         for t in range(1, tracks + 1):
             blocks += struct.pack("<BII", confidence, response.plain_sums(layout, samples, t, offset)[kind], 0)
-    (folder / response.response_name("responses/", layout)).write_bytes(blocks)
+    (folder / name).mkdir()
+    (folder / response.response_name(name, layout)).write_bytes(blocks)
 
 
 def make_refused_files(folder, audio):
@@ -243,18 +313,24 @@ def damage_record(folder):
 
 
 def sessions(text):
-    """The commands of the indented blocks, each with the lines that are to follow it."""
+    """The commands of the indented blocks, each with the lines that are to follow it and the tools that it needs."""
     found = []
     margin = None
+    needed = []
     for line in text.splitlines():
         command = re.match(r"( {4,})\$ (.*)", line)
+        needs = re.fullmatch(r"\s*<!-- needs ([\w -]+) -->", line)
         if command:
             margin = command.group(1)
-            found.append((command.group(2), []))
+            found.append((command.group(2), [], needed))
         elif margin and line.startswith(margin):
             found[-1][1].append(line[len(margin) :])
         else:
             margin = None
+            if needs:
+                needed = needs.group(1).split()
+            elif line.strip():
+                needed = []
     return found
 
 
@@ -264,7 +340,7 @@ def shell(program, folder):
     link = folder.parent / "bin" / "rip"
     if not link.exists():
         link.symlink_to(program)
-    path = f"{link.parent}:/usr/bin:/bin"
+    path = f"{link.parent}:{TOOLS}"
     return subprocess.Popen(["sh"], cwd=folder, env={"PATH": path}, stdin=subprocess.PIPE, stdout=subprocess.PIPE, stderr=subprocess.STDOUT, text=True)
 
 
@@ -286,14 +362,18 @@ def check_sessions(name, program, work, audio):
     folder.mkdir()
     make_files(program, folder, audio)
     sh = shell(program, folder)
-    for command, wanted in commands:
+    missing = {tool for _, _, needed in commands for tool in needed if shutil.which(tool, path=TOOLS) is None}
+    runnable = [(command, wanted) for command, wanted, needed in commands if not missing.intersection(needed)]
+    for command, wanted in runnable:
         found = told(sh, command)
         if found != wanted:
             fail(f"{name}: `{command}` prints {found}, not {wanted}")
     sh.stdin.close()
     sh.wait()
     shutil.rmtree(folder)
-    print(f"{name}: {len(commands)} commands run")
+    print(f"{name}: {len(runnable)} commands run")
+    if missing:
+        print(f"{name}: {len(commands) - len(runnable)} commands skipped, for want of {', '.join(sorted(missing))}")
 
 
 def check_page(program, work, audio):
@@ -304,6 +384,7 @@ def check_page(program, work, audio):
     folder.mkdir()
     make_files(program, folder, audio)
     (folder / "store").mkdir()
+    (folder / "tracks").mkdir()
     (folder / "discs.toml").write_text(list_of("register rips/disc.cue tracks.rpar"))
     for line in examples:
         words = line.replace("\\-", "-").split()[1:]
@@ -320,7 +401,7 @@ def check_page(program, work, audio):
         fail(f"man: {warned.stderr}")
 
 
-# ---- the tables of answers
+# ---- the tables of exit codes
 
 
 def pattern(text):
@@ -330,8 +411,8 @@ def pattern(text):
 
 
 def rows(name):
-    """The rows of the table of answers: the number, the texts, and a pattern for each, none where no text is printed."""
-    for line in (TOP / name).read_text().split("| Number | Text |")[1].splitlines():
+    """The rows of the table of exit codes: the code, the texts, and a pattern for each, none where no text is printed."""
+    for line in (TOP / name).read_text().split("| Exit code | Text |")[1].splitlines():
         found = re.match(r"\| (\d+) \| ([^|]*) \|", line)
         if found:
             yield int(found.group(1)), found.group(2), [pattern(text) for text in re.findall(r"`([^`]*)`", found.group(2))]
@@ -400,34 +481,63 @@ def check_names():
     sources = "\n".join(path.read_text() for kind in ("*.rt", "*.antt") for path in (TOP / "crates").rglob(kind) if "out" not in path.parts)
     words = set(re.findall(r"[A-Za-z][A-Za-z0-9_']*(?:-[A-Za-z0-9_']+)*", sources))
     crates = {line.split(":")[0] for line in (TOP / "crates.txt").read_text().splitlines() if line and not line.startswith("#")}
-    for name in ("README.md", "docs/ARCHITECTURE.md"):
-        text = (TOP / name).read_text()
-        for crate in crates:
-            if f"`{crate}`" not in text:
-                fail(f"{name} doesn't name the crate {crate}")
+    for crate in crates:
+        if f"`{crate}`" not in (TOP / "docs/ARCHITECTURE.md").read_text():
+            fail(f"docs/ARCHITECTURE.md doesn't name the crate {crate}")
     for script in (TOP / "scripts").iterdir():
-        if f"`scripts/{script.name}`" not in (TOP / "docs/ARCHITECTURE.md").read_text():
+        if script.is_file() and f"`scripts/{script.name}`" not in (TOP / "docs/ARCHITECTURE.md").read_text():
             fail(f"docs/ARCHITECTURE.md doesn't name scripts/{script.name}")
-    for name in ("README.md", "docs/ARCHITECTURE.md", "docs/FORMATS.md", "docs/GUIDE.md", "docs/DECISIONS.md"):
+    for name in NAMING:
         text = re.sub(r"^    .*$", "", (TOP / name).read_text(), flags=re.MULTILINE)
         for quoted in re.findall(r"`([^`\n]+)`", text):
-            if re.fullmatch(r"(scripts|docs|crates)/[\w./]+", quoted) and not (TOP / quoted).exists():
+            if re.fullmatch(r"(scripts|docs|crates)/[\w./]+|[A-Z]+\.md", quoted) and not (TOP / quoted).exists():
                 fail(f"{name} names {quoted}, which isn't there")
             # (one letter behind the low line is an index of mathematics)
-            if re.fullmatch(r"[A-Za-z]\w*_\w[\w-]+", quoted) and quoted not in words and quoted not in crates:
+            if re.fullmatch(r"[A-Za-z]\w*_\w[\w-]+|(?:[A-Z][a-z]+){2,}", quoted) and quoted not in words and quoted not in crates:
                 fail(f"{name} names {quoted}, which no source has")
     print("names: looked up")
 
 
+# ---- the words of README.md
+
+
+def sentences(text):
+    """The sentences of the paragraphs and of the points of lists, without code blocks, tables and headings."""
+    pieces = [[]]
+    for line in text.splitlines():
+        if re.match(r" {4}|\||#", line) or not line.strip():
+            pieces.append([])
+        elif re.match(r"- |\d+\. ", line):
+            pieces.append([re.sub(r"^(- |\d+\. )", "", line)])
+        else:
+            pieces[-1].append(line)
+    for piece in pieces:
+        # (a full stop ends a sentence, also in front of a closing mark, where a blank and a capital, a mark or a figure follow)
+        yield from re.split(r"(?<=[.!?])[\"*)]*\s+(?=[A-Z0-9`*(\"])", " ".join(piece))
+
+
+def check_readme():
+    text = (TOP / "README.md").read_text()
+    words = len(text.split())
+    if words > MOST_WORDS:
+        fail(f"README.md has {words} words")
+    lengths = [(len([word for word in sentence.split() if re.search(r"\w", word)]), sentence) for sentence in sentences(text)]
+    for length, sentence in lengths:
+        if length > LONGEST_SENTENCE:
+            fail(f"README.md has a sentence of {length} words: {sentence}")
+    print(f"README.md: {words} words, the longest sentence has {max(length for length, _ in lengths)}")
+
+
 def main():
     program = str(Path(sys.argv[1]).resolve()) if sys.argv[1:] else str(TOP / "bin" / "rip")
+    check_names()
+    check_readme()
     if not Path(program).exists():
         sys.exit("no program: call scripts/rip once, or name one")
-    check_names()
     audio = random.Random(1).randbytes(95_312 * SECTOR_BYTES)
     with tempfile.TemporaryDirectory() as name:
         work = Path(name)
-        for document in ("README.md", "docs/GUIDE.md", "docs/FORMATS.md"):
+        for document in RUN:
             check_sessions(document, program, work, audio)
         check_page(program, work, audio)
         check_answers(program, work, audio)
