@@ -1,11 +1,17 @@
 -- Discs that ran, one after another.
-use Rattle.std.proofs.Common.{◌≡◌, ℕ, List, [], ◌∷◌, ◌++◌, length, Some, refl, arith}
+use Rattle.std.proofs.Common.{◌≡◌, ℕ, List, [], ◌∷◌, ◌++◌, length, Some, refl, subst, arith}
 use Rattle.std.specs.Prelude.{slice_get}
+use Rattle.rip_outside.specs.declared.shelf.Shelf.{Ghosts as ShelfMeaning}
 use Rattle.rip_outside.specs.Causes.{NoneFell}
+use Rattle.rip_outside.specs.Crashes.{Rests, WhereForetold}
 use Rattle.rip_words.specs.Command.{command_reading}
+use Rattle.engine_steps.specs.Crashing.{CrashSafe}
+use Rattle.engine_steps.specs.Steps.{IsAnswered}
+use Rattle.engine_steps.proofs.CrashingLaws.{safe_after}
 use Rattle.engine_steps.specs.declared.steps.Answer.{Answer}
-use Rattle.rip_commands.specs.Look.{Look}
-use Rattle.rip_commands.specs.Ran.{NoneRose, Ran}
+use Rattle.rip_commands.specs.Look.{Look, look}
+use Rattle.rip_commands.specs.Outcomes.{IsOutcomeOf}
+use Rattle.rip_commands.specs.Ran.{IsTold, NoneRose, Ran}
 use Rattle.cmd_batch.specs.Batch.{RanInOrder}
 
 -- one disc more ran
@@ -30,3 +36,15 @@ none_fell (words ∷ rest) before after (told ∷ others) order = λ call.
 -- where no call failed in all, none failed in a part of it
 pub none_rose_in : (before from to after : Look) → NoneFell before.faults from.faults → NoneFell to.faults after.faults → NoneRose before after → NoneRose from to
 none_rose_in before from to after first last none = λ call rose. let a = first call in let b = last call in none call (omega arith)
+
+-- a command that begins anew
+pub begun_anew : {S : Type 0} (means : ShelfMeaning S) (words own : List (List ℕ)) (start begun after : S) (told : Answer) → words ≡ own
+    → means.held begun ≡ means.held start → means.faults begun ≡ means.faults start → means.taken begun ≡ means.taken start → WhereForetold Rests (means.crashes start) (means.crashes begun)
+    → IsTold (command_reading words) (look means begun) (look means after) (means.crashes begun) (means.crashes after) told
+    → Ran (command_reading own) (look means start) (look means after) told × CrashSafe (IsOutcomeOf (command_reading own)) (IsAnswered told.status) (means.crashes start) (means.crashes after)
+begun_anew means words own start begun after told spelled held faults taken rests is =
+    let same : look means begun ≡ look means start = rw (held, faults, taken) refl in
+    let done = subst (λ (w : List (List ℕ)). IsTold (command_reading w) (look means begun) (look means after) (means.crashes begun) (means.crashes after) told) spelled is in (
+      subst (λ (b : Look). Ran (command_reading own) b (look means after) told) same done.ran,
+      safe_after (IsOutcomeOf (command_reading own)) (IsAnswered told.status) (means.crashes start) (means.crashes begun) (means.crashes after) rests done.crashes,
+    )

@@ -4,6 +4,7 @@ use Rattle.std.specs.Prelude.{◌==◌}
 use Rattle.std.specs.Option.{option_to_list}
 use Rattle.std.proofs.lemmas.List.{append-nil}
 use Rattle.rip_outside.specs.Causes.{IsReadCall, Rose}
+use Rattle.rip_outside.specs.Crashes.{Outlook}
 use Rattle.rip_outside.specs.declared.fault.ShelfCall.{ShelfCall}
 use Rattle.rip_outside.proofs.FilesLaws.{if_told, when_told}
 use Rattle.rip_report.specs.Texts.{read_fault_line}
@@ -35,8 +36,8 @@ counted_status failed = by (failed == 0)
 abbrev IsNoFault : Status → Type 0
 IsNoFault status = (call : ShelfCall) → (status ≢ ReadFault call) × (status ≢ WriteFault call)
 
-discs_no_fault : (discs : List (List (List ℕ))) (before after : Seen) (status : Status) → DiscsRan discs before after status → IsNoFault status
-discs_no_fault discs before after status ran call = elim ran.ends [
+discs_no_fault : (discs : List (List (List ℕ))) (before after : Seen) (outlook later : Outlook) (status : Status) → DiscsRan discs before after outlook later status → IsNoFault status
+discs_no_fault discs before after outlook later status ran call = elim ran.ends [
   | inl whole ↦ elim (counted_status (failed_of ran.went)) [
     | inl done ↦ let is : status ≡ Done = whole.1 ∙ done in ((λ e. let no : Done ≡ ReadFault call = sym is ∙ e in cc), (λ e. let no : Done ≡ WriteFault call = sym is ∙ e in cc))
     | inr failed ↦
@@ -67,9 +68,9 @@ printed_status told old new before now status printed = elim printed [
 
 -- ---- the batch's own faults
 
-module _ (list : List ℕ) (before after : Seen) (status : Status) where
+module _ (list : List ℕ) (before after : Seen) (outlook later : Outlook) (status : Status) where
   -- why no list was read is a refusal, a fault of reading or want of memory
-  stopped_faults : NoDiscRan list before after status → OwnFaults before after status
+  stopped_faults : NoDiscRan list before after outlook later status → OwnFaults before after status
   stopped_faults none = record { never_writing = writing; reading = reading }
     where
       writing : (call : ShelfCall) → status ≢ WriteFault call
@@ -109,23 +110,23 @@ module _ (list : List ℕ) (before after : Seen) (status : Status) where
         ]
       ]
 
-  pub own_faults : BatchRan list before after status → OwnFaults before after status
+  pub own_faults : BatchRan list before after outlook later status → OwnFaults before after status
   own_faults (inl none) = stopped_faults none
   own_faults (inr ran) =
-      let no = discs_no_fault ran.discs ran.start after status ran.ran in
+      let no = discs_no_fault ran.discs ran.start after outlook later status ran.ran in
       record { never_writing = λ call. (no call).1; reading = λ call e. absurd ((no call).0 e) }
 
   -- ---- to the end
 
   -- where the sink didn't fail and no memory was wanting, all went out
-  whole_so : (discs : List (List (List ℕ))) (start : Seen) → (ran : DiscsRan discs start after status) → (Rose start.sink_faults after.sink_faults → ⊥) → status ≢ WantOfMemory
+  whole_so : (discs : List (List (List ℕ))) (start : Seen) → (ran : DiscsRan discs start after outlook later status) → (Rose start.sink_faults after.sink_faults → ⊥) → status ≢ WantOfMemory
       → EndsWhole ran.went ran.next start after status
   whole_so discs start ran sound some = elim ran.ends [
     | inl whole ↦ whole
     | inr others ↦ elim others [ inl sink ↦ absurd (sound sink.1) | inr want ↦ absurd (some want.0) ]
   ]
 
-  pub to_the_end : BatchRan list before after status → GoesToTheEnd list before after status
+  pub to_the_end : BatchRan list before after outlook later status → GoesToTheEnd list before after status
   to_the_end (inl none) sound some unfailed = if_told before.held _ (λ files told discs reads.
       let so = printed_so none.told _ _ _ _ status none.printed sound some in
       let bad : ⊥ = elim none.stops [
@@ -149,7 +150,7 @@ module _ (list : List ℕ) (before after : Seen) (status : Status) where
 
   -- ---- the outcome
 
-  pub decides : BatchRan list before after status → BatchDecides list before after status
+  pub decides : BatchRan list before after outlook later status → BatchDecides list before after status
   decides (inl none) unrisen sound some = if_told before.held _ (λ files told.
       let so = printed_so none.told _ _ _ _ status none.printed sound some in
       elim none.stops [
@@ -165,7 +166,7 @@ module _ (list : List ℕ) (before after : Seen) (status : Status) where
       let whole = whole_so ran.discs ran.start ran.ran sound' some in
       let all : ran.ran.went ++ option_to_list ran.ran.next ≡ ran.ran.went = rw whole.0 (append-nil ran.ran.went) in
       let order : RanInOrder ran.discs (look_of ran.start) (look_of after) ran.ran.went = subst (RanInOrder ran.discs (look_of ran.start) (look_of after)) all ran.ran.ran in
-      let quiet : NoneRose (look_of ran.start) (look_of after) = none_rose_in (look_of before) (look_of ran.start) (look_of after) (look_of after) ran.later (λ call. omega arith) unrisen in
+      let quiet : NoneRose (look_of ran.start) (look_of after) = none_rose_in (look_of before) (look_of ran.start) (look_of after) (look_of after) ran.none_fell (λ call. omega arith) unrisen in
       let came = came_of ran.discs (look_of ran.start) (look_of after) ran.ran.went order (ran.ran.whole whole.0) quiet ran.ran.told files (ran.same ∙ told) in
       let is : discs_listed list files ≡ Ok ran.discs = when_told before.held _ ran.read files told in
       let outcome : IsBatchOutcome list files (batched came.outcomes) = rw is (came.outcomes, came.are, refl) in
@@ -176,11 +177,11 @@ module _ (list : List ℕ) (before after : Seen) (status : Status) where
 
   -- ---- bytes taken
 
-  pub takes : BatchRan list before after status → BatchTakes list before after
+  pub takes : BatchRan list before after outlook later status → BatchTakes list before after
   takes (inl none) unrisen = if_told before.held _ (λ files told most is. let own = when_told before.held _ (none.taken unrisen) files told in omega (arith, own))
   takes (inr ran) unrisen = if_told before.held _ (λ files told most is.
       let reads : discs_listed list files ≡ Ok ran.discs = when_told before.held _ ran.read files told in
-      let quiet : NoneRose (look_of ran.start) (look_of after) = none_rose_in (look_of before) (look_of ran.start) (look_of after) (look_of after) ran.later (λ call. omega arith) unrisen in
+      let quiet : NoneRose (look_of ran.start) (look_of after) = none_rose_in (look_of before) (look_of ran.start) (look_of after) (look_of after) ran.none_fell (λ call. omega arith) unrisen in
       let own = when_told before.held _ ran.taken files told in
       let most_is = subst (λ (r : Result (List (List (List ℕ))) Status). IsMostOfListed r files most) reads is in
       let discs = takes_in_order ran.discs (look_of ran.start) (look_of after) ran.ran.went ran.ran.next ran.ran.ran quiet ran.ran.told files (ran.same ∙ told) most most_is in

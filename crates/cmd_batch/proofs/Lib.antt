@@ -8,4 +8,5 @@ pub mod OutcomeLaws
 pub mod PartLaws
 pub mod SameLaws
 pub mod SoFar
+pub mod StopLaws
 pub mod TakenLaws

@@ -1,7 +1,8 @@
--- A run of `batch`: which discs ran, what went out, and what is left.
+-- A run of `batch`: which discs ran, what went out, and what is left, also after a stop at any moment.
 use Rattle.std.specs.Prelude.{◌≡◌, ◌≢◌, ◌⊎◌, ℕ, ◌+◌, ◌^◌, ◌-◌, ◌≤◌, All, Bool, true, false, List, [], ◌∷◌, ◌++◌, filter, length, take, Option, None, Some, IfSome, Result, Ok, Err}
 use Rattle.std.specs.Option.{option_to_list}
 use Rattle.rip_outside.specs.Causes.{IsReadCall, NoneFell, Rose}
+use Rattle.rip_outside.specs.Crashes.{Outlook, Rests, StoresWhole, WhereForetold}
 use Rattle.rip_outside.specs.Files.{Files, bytes_at}
 use Rattle.rip_outside.specs.Outputs.{after_outputs}
 use Rattle.rip_outside.specs.declared.fault.ShelfCall.{ShelfCall}
@@ -10,8 +11,9 @@ use Rattle.rip_words.specs.Command.{command_reading}
 use Rattle.rip_report.specs.Texts.{disc_part, exit_number, read_fault_line, refusal_line}
 use Rattle.rip_report.specs.declared.status.Status.{Status}
 use Rattle.rip_report.specs.declared.status.Status.TheVariants.{ReadFault, SinkFault, WantOfMemory, WriteFault}
+use Rattle.engine_steps.specs.Crashing.{CrashLeaves}
 use Rattle.engine_steps.specs.Outcome.{Outcome}
-use Rattle.engine_steps.specs.Steps.{IsStepRefusal}
+use Rattle.engine_steps.specs.Steps.{IsAnswered, IsStepRefusal}
 use Rattle.engine_steps.specs.declared.steps.Answer.{Answer}
 use Rattle.rip_commands.specs.Look.{Look}
 use Rattle.rip_commands.specs.Outcomes.{IsMostTaken, IsOutcomeOf}
@@ -48,8 +50,16 @@ EndsInSink went next before after status =
 abbrev pub EndsWanting : List Answer → Option Answer → Seen → Seen → Status → Type 0
 EndsWanting went next before after status = (status ≡ WantOfMemory) × Wrote (parts_from 1 went) before.told after.told
 
+-- What a stop may leave of discs that run over these files: what it may leave of the first; or, once that has come to its outcome, of
+-- the others over the files that there are then.
+abbrev pub StopLeaves : List (List (List ℕ)) → Files → Files → Type 0
+StopLeaves [] files left = left ≡ files
+StopLeaves (words ∷ rest) files left =
+    CrashLeaves (IsOutcomeOf (command_reading words) files) files left
+    ⊎ ((outcome : Outcome) × IsOutcomeOf (command_reading words) files outcome × StopLeaves rest (after_outputs outcome.outputs files) left)
+
 -- These discs ran in order: those whose parts went out whole, and then up to one more.
-pub record DiscsRan (discs : List (List (List ℕ))) (before after : Seen) (status : Status) : Type 0 where
+pub record DiscsRan (discs : List (List (List ℕ))) (before after : Seen) (outlook later : Outlook) (status : Status) : Type 0 where
   pub went : List Answer
   pub next : Option Answer
   pub ran : RanInOrder discs (look_of before) (look_of after) (went ++ option_to_list next)
@@ -57,19 +67,21 @@ pub record DiscsRan (discs : List (List (List ℕ))) (before after : Seen) (stat
   pub told : All (λ (told : Answer). told.status ≢ WantOfMemory) went
   pub whole : next ≡ None → length went ≡ length discs
   pub ends : EndsWhole went next before after status ⊎ EndsInSink went next before after status ⊎ EndsWanting went next before after status
+  -- where none of those ended in a fault: on a settled shelf, what a stop at any moment leaves; and after them all the shelf is settled
+  pub survives : All (λ (told : Answer). IsAnswered told.status) went → WhereForetold (StoresWhole (StopLeaves discs) (next ≡ None)) outlook later
 
 -- ---- the list
 
 -- The list was read, which changes nothing that is held and prints nothing, and its discs ran.
-pub record ListRan (list : List ℕ) (before after : Seen) (status : Status) : Type 0 where
+pub record ListRan (list : List ℕ) (before after : Seen) (outlook later : Outlook) (status : Status) : Type 0 where
   pub discs : List (List (List ℕ))
   pub read : IfSome before.held (λ files. discs_listed list files ≡ Ok discs)
   pub start : Seen
   pub same : start.held ≡ before.held
-  pub later : NoneFell before.faults start.faults
+  pub none_fell : NoneFell before.faults start.faults
   pub taken : IfSome before.held (λ files. start.taken ≤ before.taken + length (bytes_at list files))
   pub unprinted : (start.told ≡ before.told) × (start.sink_faults ≡ before.sink_faults)
-  pub ran : DiscsRan discs start after status
+  pub ran : DiscsRan discs start after outlook later status
 
 -- why no list was read: it is refused; or a call that reads failed; or memory was wanting
 abbrev pub StopsAtList : List ℕ → Seen → Seen → Answer → Type 0
@@ -79,17 +91,18 @@ StopsAtList list before after told =
     ⊎ (told.status ≡ WantOfMemory)
 
 -- No disc ran, nothing that is held has changed, and why is told.
-pub record NoDiscRan (list : List ℕ) (before after : Seen) (status : Status) : Type 0 where
+pub record NoDiscRan (list : List ℕ) (before after : Seen) (outlook later : Outlook) (status : Status) : Type 0 where
   pub same : after.held ≡ before.held
-  pub later : NoneFell before.faults after.faults
+  pub rests : WhereForetold Rests outlook later
+  pub none_fell : NoneFell before.faults after.faults
   pub taken : NoneRose (look_of before) (look_of after) → IfSome before.held (λ files. after.taken ≤ before.taken + length (bytes_at list files))
   pub told : Answer
   pub stops : StopsAtList list before after told
   pub printed : Printed told before.told after.told before.sink_faults after.sink_faults status
 
 -- Either no disc ran, or the list's discs ran in order.
-abbrev pub BatchRan : List ℕ → Seen → Seen → Status → Type 0
-BatchRan list before after status = NoDiscRan list before after status ⊎ ListRan list before after status
+abbrev pub BatchRan : List ℕ → Seen → Seen → Outlook → Outlook → Status → Type 0
+BatchRan list before after outlook later status = NoDiscRan list before after outlook later status ⊎ ListRan list before after outlook later status
 
 -- ---- what follows
 
@@ -114,6 +127,17 @@ GoesToTheEnd list before after status =
     IfSome before.held (λ files. (discs : List (List (List ℕ))) → discs_listed list files ≡ Ok discs →
     (start : Look) × (tolds : List Answer) × RanInOrder discs start (look_of after) tolds × (length tolds ≡ length discs)
     × (status ≡ batch_status (failed_of tolds)) × Wrote (parts_from 1 tolds ++ last_line tolds) before.told after.told)
+
+-- what a stop may leave of the discs of a list, or of a list that is refused
+abbrev pub StopLeavesListed : Result (List (List (List ℕ))) Status → Files → Files → Type 0
+StopLeavesListed (Err status) files left = left ≡ files
+StopLeavesListed (Ok discs) files left = StopLeaves discs files left
+
+-- Where no call of the shelf failed: on a settled shelf, a stop at any moment leaves all that some first discs write, and of the next
+-- what a stop of its own may leave; and a batch that isn't ended by a put or for want of memory leaves the shelf settled.
+abbrev pub BatchSurvives : List ℕ → Seen → Seen → Outlook → Outlook → Status → Type 0
+BatchSurvives list before after outlook later status = NoneRose (look_of before) (look_of after) →
+    WhereForetold (StoresWhole (λ old left. StopLeavesListed (discs_listed list old) old left) (IsAnswered status)) outlook later
 
 -- ---- faults, counted
 

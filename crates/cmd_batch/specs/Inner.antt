@@ -1,11 +1,15 @@
 -- What inner functions answer.
 use Rattle.std.specs.Prelude.{◌≡◌, ◌≢◌, ◌⊎◌, ◌≤◌, ℕ, Bool, List, take, Option, Result, Ok, Err}
 use Rattle.rip_outside.specs.Causes.{Rose}
+use Rattle.rip_outside.specs.Crashes.{Outlook}
 use Rattle.rip_words.specs.Command.{command_reading}
 use Rattle.rip_report.specs.Texts.{batch_line, disc_part, exit_number}
 use Rattle.rip_report.specs.declared.status.Status.{Status}
 use Rattle.rip_report.specs.declared.status.Status.TheVariants.{SinkFault, WantOfMemory}
+use Rattle.engine_steps.specs.Crashing.{CrashSafe}
+use Rattle.engine_steps.specs.Steps.{IsAnswered}
 use Rattle.engine_steps.specs.declared.steps.Answer.{Answer}
+use Rattle.rip_commands.specs.Outcomes.{IsOutcomeOf}
 use Rattle.rip_commands.specs.Printing.{Wrote}
 use Rattle.rip_commands.specs.Ran.{Ran}
 use Rattle.rip_commands.specs.Seen.{Seen, look_of}
@@ -29,10 +33,15 @@ PutsLast discs failed old new before now status =
     ⊎ ((status ≡ SinkFault) × Rose before now × ((n : ℕ) × Wrote (take n (batch_line discs failed)) old new))
     ⊎ ((status ≡ WantOfMemory) × (new ≡ old))
 
+-- these words were done, and a stop leaves of that what it may
+abbrev pub RanSafely : List (List ℕ) → Seen → Seen → Outlook → Outlook → Answer → Type 0
+RanSafely words before after outlook later told =
+    Ran (command_reading words) (look_of before) (look_of after) told × CrashSafe (IsOutcomeOf (command_reading words)) (IsAnswered told.status) outlook later
+
 -- The disc with this number ran, and its part went out; or the batch ends.
-abbrev pub DiscRan : ℕ → List (List ℕ) → Seen → Seen → Result Bool Status → Type 0
-DiscRan disc words before after (Ok done) =
-    (told : Answer) × Ran (command_reading words) (look_of before) (look_of after) told × (before.sink_faults ≤ after.sink_faults)
+abbrev pub DiscRan : ℕ → List (List ℕ) → Seen → Seen → Outlook → Outlook → Result Bool Status → Type 0
+DiscRan disc words before after outlook later (Ok done) =
+    (told : Answer) × RanSafely words before after outlook later told × (before.sink_faults ≤ after.sink_faults)
     × PutsPart disc told before.told after.told before.sink_faults after.sink_faults (Ok tt) × (done ≡ is_done told.status)
-DiscRan disc words before after (Err status) =
-    (told : Answer) × Ran (command_reading words) (look_of before) (look_of after) told × PutsPart disc told before.told after.told before.sink_faults after.sink_faults (Err status)
+DiscRan disc words before after outlook later (Err status) =
+    (told : Answer) × RanSafely words before after outlook later told × PutsPart disc told before.told after.told before.sink_faults after.sink_faults (Err status)

@@ -67,7 +67,7 @@ fn run_disc<F: Folder, K: Sink>(
     files: &mut F,
     out: &mut K,
 ) -> Result<bool, Status>
-    ensures { DiscRan disc words.now (seen F.Shelf K.Sink files.old out.old) (seen F.Shelf K.Sink files.new out.new) result }
+    ensures { DiscRan disc words.now (seen F.Shelf K.Sink files.old out.old) (seen F.Shelf K.Sink files.new out.new) (F.crashes files.old) (F.crashes files.new) result }
 {
     files.forget();
     let told = tell_words(alloc, words.as_slice(), files);
@@ -83,7 +83,7 @@ pub fn run_discs<F: Folder, K: Sink>(
     out: &mut K,
 ) -> Status
     requires { length discs.now ≤ 1000 }
-    ensures { DiscsRan discs.now (seen F.Shelf K.Sink files.old out.old) (seen F.Shelf K.Sink files.new out.new) result }
+    ensures { DiscsRan discs.now (seen F.Shelf K.Sink files.old out.old) (seen F.Shelf K.Sink files.new out.new) (F.crashes files.old) (F.crashes files.new) result }
 {
     let mut failed: u32 = 0;
     for (index, words) in discs.iter().enumerate() {

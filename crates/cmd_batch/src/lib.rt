@@ -11,7 +11,7 @@ ghost use Rattle.rip_commands.specs.Look.{Look};
 ghost use Rattle.rip_commands.specs.Seen.{seen};
 ghost use Rattle.cmd_batch.specs.Apart.{DiscsAreIndependent};
 ghost use Rattle.cmd_batch.specs.BatchOutcome.{IsBatchOutcome};
-ghost use Rattle.cmd_batch.specs.Batch.{BatchDecides, BatchRan, BatchTakes, FaultsAreCounted, GoesToTheEnd, OwnFaults};
+ghost use Rattle.cmd_batch.specs.Batch.{BatchDecides, BatchRan, BatchSurvives, BatchTakes, FaultsAreCounted, GoesToTheEnd, OwnFaults};
 
 use crate::discs::run_discs;
 use crate::lists::read_lists;
@@ -22,7 +22,7 @@ use std::alloc::Global;
 
 // Reads the list, and runs its discs or tells why there are none.
 fn run_list<F: Folder, K: Sink>(alloc: Global, list: &str, files: &mut F, out: &mut K) -> Status
-    ensures { BatchRan list.now (seen F.Shelf K.Sink files.old out.old) (seen F.Shelf K.Sink files.new out.new) result }
+    ensures { BatchRan list.now (seen F.Shelf K.Sink files.old out.old) (seen F.Shelf K.Sink files.new out.new) (F.crashes files.old) (F.crashes files.new) result }
 {
     let Ok(lines) = fault_lines(alloc) else {
         return Status::WantOfMemory;
@@ -37,11 +37,12 @@ fn run_list<F: Folder, K: Sink>(alloc: Global, list: &str, files: &mut F, out: &
 /// its number, that of its status, and its text. The last line counts the discs and those that weren't done. A disc's refusal or
 /// fault doesn't end the batch. A put that fails ends it, and so does want of memory.
 pub fn batch<F: Folder, K: Sink>(alloc: Global, list: &str, files: &mut F, out: &mut K) -> Status
-    ensures runs { BatchRan list.now (seen F.Shelf K.Sink files.old out.old) (seen F.Shelf K.Sink files.new out.new) result }
+    ensures runs { BatchRan list.now (seen F.Shelf K.Sink files.old out.old) (seen F.Shelf K.Sink files.new out.new) (F.crashes files.old) (F.crashes files.new) result }
     ensures outcome { BatchDecides list.now (seen F.Shelf K.Sink files.old out.old) (seen F.Shelf K.Sink files.new out.new) result }
     ensures own_faults { OwnFaults (seen F.Shelf K.Sink files.old out.old) (seen F.Shelf K.Sink files.new out.new) result }
     ensures to_the_end { GoesToTheEnd list.now (seen F.Shelf K.Sink files.old out.old) (seen F.Shelf K.Sink files.new out.new) result }
     ensures bytes_taken { BatchTakes list.now (seen F.Shelf K.Sink files.old out.old) (seen F.Shelf K.Sink files.new out.new) }
+    ensures survives { BatchSurvives list.now (seen F.Shelf K.Sink files.old out.old) (seen F.Shelf K.Sink files.new out.new) (F.crashes files.old) (F.crashes files.new) result }
 {
     run_list(alloc, list, files, out)
 }

@@ -1,6 +1,5 @@
 -- The files of a disc that is joined.
-use Rattle.std.proofs.Common.{◌≡◌, ◌≢◌, ◌∙◌, ℕ, zero, suc, ◌+◌, ◌<◌, List, [], ◌∷◌, ◌++◌, length, Ok, sym, ap, arith, length-append}
-use Rattle.std.specs.Prelude.{AllPairs, codes}
+use Rattle.std.proofs.Common.{◌≡◌, ℕ, List, Ok}
 use Rattle.rip_outside.specs.Files.{Files}
 use Rattle.rip_inputs.specs.Opening.{Opened}
 use Rattle.track_split.specs.Tracks.{join_names}

@@ -1,7 +1,7 @@
 //! The command `join`: a rip as one file, and its sheet.
 #![tactic(auto)]
 
-ghost use Rattle.std.specs.Prelude.{◌≡◌, ◌*◌, List, ℕ, All, Contains, IfSome, IsOk, None, length, map};
+ghost use Rattle.std.specs.Prelude.{◌≡◌, ◌*◌, List, ℕ, All, Contains, IfSome, None, length, map};
 ghost use Rattle.std.specs.Option.{ForSome};
 ghost use Rattle.std.specs.FinMap.{get};
 ghost use Rattle.rip_outside.specs.Causes.{NoneFell};
@@ -15,7 +15,7 @@ ghost use Rattle.rip_words.specs.FileNames.{name_in_folder};
 ghost use Rattle.rip_report.specs.Texts.{joined_line};
 ghost use Rattle.engine_steps.specs.Crashing.{CrashSafe};
 ghost use Rattle.engine_steps.specs.Outcome.{Leaves, written};
-ghost use Rattle.engine_steps.specs.Steps.{EndsWithCause, Takes};
+ghost use Rattle.engine_steps.specs.Steps.{ComesToEnd, EndsWithCause, Takes};
 ghost use Rattle.cmd_join.specs.JoinOutcome.{IsJoinOutcome};
 
 use disc_toc::Layout;
@@ -47,7 +47,7 @@ fn write_join<S: Shelf>(
     requires apart { All (λ (p : Part). Contains parts.now p.name → ⊥) image }
     requires count { word_count image ≡ 1176 * layout.now.sectors }
     ensures leaves { IfSome (S.held shelf.old) (λ files. Leaves (λ o. o ≡ written (joined_line to.now layout.now.sectors) (join_outputs to.now (name_in_folder to.now) (toc_of layout.now) (joined_words image files))) files result (S.held shelf.new)) }
-    ensures crashes { CrashSafe (λ files o. o ≡ written (joined_line to.now layout.now.sectors) (join_outputs to.now (name_in_folder to.now) (toc_of layout.now) (joined_words image files))) (IsOk result) (S.crashes shelf.old) (S.crashes shelf.new) }
+    ensures crashes { CrashSafe (λ files o. o ≡ written (joined_line to.now layout.now.sectors) (join_outputs to.now (name_in_folder to.now) (toc_of layout.now) (joined_words image files))) (ComesToEnd result) (S.crashes shelf.old) (S.crashes shelf.new) }
     ensures cause { EndsWithCause (S.faults shelf.old) (S.faults shelf.new) result }
     ensures later { NoneFell (S.faults shelf.old) (S.faults shelf.new) }
     ensures taken { Takes (2 * word_count image) result (S.taken shelf.old) (S.taken shelf.new) }
@@ -76,7 +76,7 @@ fn write_join<S: Shelf>(
 #[tactic(auto, using(engine_steps::proofs::CrashingLaws::safe_rests))]
 pub fn join<S: Shelf>(alloc: Global, shelf: &mut S, input: &str, to: &str) -> Result<Answer, Stop>
     ensures leaves { IfSome (S.held shelf.old) (λ files. Leaves (IsJoinOutcome input.now to.now files) files result (S.held shelf.new)) }
-    ensures crashes { CrashSafe (IsJoinOutcome input.now to.now) (IsOk result) (S.crashes shelf.old) (S.crashes shelf.new) }
+    ensures crashes { CrashSafe (IsJoinOutcome input.now to.now) (ComesToEnd result) (S.crashes shelf.old) (S.crashes shelf.new) }
     ensures cause { EndsWithCause (S.faults shelf.old) (S.faults shelf.new) result }
     ensures later { NoneFell (S.faults shelf.old) (S.faults shelf.new) }
     ensures taken { IfSome (S.held shelf.old) (λ files. Takes (3 * lengths_of (names_read input.now files) files) result (S.taken shelf.old) (S.taken shelf.new)) }

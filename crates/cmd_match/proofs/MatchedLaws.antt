@@ -1,5 +1,5 @@
 -- A rip and a response have one list of matches, and how many bytes are read for it.
-use Rattle.std.proofs.Common.{◌≡◌, ◌∙◌, ◌+◌, ◌≤◌, ◌++◌, ◌∷◌, [], ℕ, List, length, Option, Some, Result, Ok, Err, ap, subst, sym, arith, zero-add}
+use Rattle.std.proofs.Common.{◌≡◌, ◌∙◌, ◌+◌, ◌≤◌, ◌++◌, ◌∷◌, [], ℕ, List, length, Option, Some, Result, Ok, Err, ap, sym, arith, zero-add}
 use Rattle.std.specs.Option.{option_to_list}
 use Rattle.rip_outside.specs.Files.{Files, bytes_at}
 use Rattle.accurip_match.specs.Name.{response_name}

@@ -1,7 +1,6 @@
 -- Where the words of a track at an offset stand in a rip.
-use Rattle.std.proofs.Common.{◌≡◌, ◌∙◌, ℕ, suc, ◌+◌, ◌-◌, ◌*◌, ◌<◌, ◌≤◌, List, ◌++◌, length, get_or, take, drop, replicate, map, sym, ap, arith, inl, inr}
-use Rattle.std.specs.Prelude.{ℤ, pos, negsuc, slice_range, min}
-use Rattle.std.specs.List.{range_with_len}
+use Rattle.std.proofs.Common.{◌≡◌, ◌∙◌, ℕ, suc, ◌+◌, ◌-◌, ◌*◌, ◌<◌, ◌≤◌, List, ◌++◌, length, get_or, drop, replicate, sym, ap, arith, inl, inr}
+use Rattle.std.specs.Prelude.{pos, negsuc, slice_range, min}
 use Rattle.std.proofs.lemmas.Bool.{cases_lt, cond-false, cond-true, le-ltb, lt-ltb}
 use Rattle.std.proofs.lemmas.List.{get_or-append_right, get_or-drop, get_or-replicate, get_or-take, get_or_append_left, get_or_past, length-append, length-drop, length-replicate, length-take}
 use Rattle.std.proofs.lemmas.List.FromFn.{fill_by_all}

@@ -1,5 +1,5 @@
 -- A call that stops stops its caller.
-use Rattle.std.proofs.Common.{◌≡◌, ℕ, ◌+◌, ◌≤◌, Option, None, Some, IfSome, IfOk, Result, Ok, Err, arith}
+use Rattle.std.proofs.Common.{◌≡◌, ℕ, Option, None, Some, IfSome, IfOk, Result, Err, arith}
 use Rattle.rip_outside.specs.Files.{Files}
 use Rattle.rip_outside.specs.Causes.{NoneFell}
 use Rattle.rip_outside.specs.declared.fault.ShelfCall.{ShelfCall}

@@ -3,7 +3,6 @@ use Rattle.std.specs.Prelude.{◌≡◌, ℕ, List, ◌++◌, length, nat_le, Op
 use Rattle.std.specs.FinMap.{get}
 use Rattle.std.specs.Option.{option_to_list}
 use Rattle.rip_outside.specs.Files.{Files}
-use Rattle.disc_toc.specs.Toc.{Toc}
 use Rattle.accurip_match.specs.Matching.{AreMatches}
 use Rattle.accurip_match.specs.Name.{response_name}
 use Rattle.accurip_match.specs.Response.{AreBlocks, IsCut}

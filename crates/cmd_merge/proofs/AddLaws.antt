@@ -1,6 +1,6 @@
 -- What a merge adds: whole records, under names that no file has.
 use Rattle.std.proofs.Common.{◌≡◌, ◌≢◌, ◌∙◌, ℕ, zero, suc, ◌+◌, ◌<◌, ◌≤◌, List, [], ◌∷◌, ◌++◌, length, take, map, get_or, slice_get, Option, None, Some, Bool, true, false, refl, sym, ap, subst, arith}
-use Rattle.std.specs.Prelude.{All, AllPairs, filter, is_some, unwrap_or, if◌then◌else◌}
+use Rattle.std.specs.Prelude.{All, AllPairs, is_some, unwrap_or, if◌then◌else◌}
 use Rattle.std.specs.Str.{bytes_eq}
 use Rattle.std.specs.FinMap.{get}
 use Rattle.std.proofs.lemmas.List.Elements.{All-filter, All-get_or, All-head, All-tail, filter_passes}
@@ -16,8 +16,7 @@ use Rattle.store_upkeep.specs.Looking.{is_good}
 use Rattle.store_upkeep.proofs.EntryLaws.{entries_differ, entries_held}
 use Rattle.engine_outputs.proofs.FollowLaws.{AreFresh, IsOtherName, next_free, pairs_head, pairs_tail}
 use Rattle.rip_outside.proofs.OutputLaws.{IsApartFrom, put_other}
-use Rattle.cmd_merge.specs.declared.fate.Fate.{Fate}
-use Rattle.cmd_merge.specs.declared.fate.Fate.TheVariants.{Added, Same, Differs, Skipped}
+use Rattle.cmd_merge.specs.declared.fate.Fate.TheVariants.{Same, Differs, Skipped}
 use Rattle.cmd_merge.specs.declared.planning.Planned.{Planned}
 use Rattle.cmd_merge.specs.MergeOutcome.{added_among, fate_beside, fate_of, is_added, merge_output, merge_outputs, target}
 use Rattle.cmd_merge.specs.Planning.{planned, planned_parts}

@@ -7,7 +7,7 @@ mod planning;
 mod telling;
 mod writing;
 
-ghost use Rattle.std.specs.Prelude.{◌≡◌, ◌*◌, true, length, map, IfOk, IfSome, IsOk};
+ghost use Rattle.std.specs.Prelude.{◌≡◌, ◌*◌, true, length, map, IfOk, IfSome};
 ghost use Rattle.std.specs.Option.{ForSome};
 ghost use Rattle.rip_basics.specs.FileNames.{ends_in_slash};
 ghost use Rattle.rip_outside.specs.Causes.{NoneFell};
@@ -17,7 +17,7 @@ ghost use Rattle.store_upkeep.specs.Entries.{entries_in};
 ghost use Rattle.rip_inputs.specs.Opening.{lengths_of};
 ghost use Rattle.engine_steps.specs.Crashing.{CrashSafe};
 ghost use Rattle.engine_steps.specs.Outcome.{Leaves};
-ghost use Rattle.engine_steps.specs.Steps.{EndsWithCause, ReadsOnly, Takes};
+ghost use Rattle.engine_steps.specs.Steps.{ComesToEnd, EndsWithCause, ReadsOnly, Takes};
 ghost use Rattle.cmd_merge.specs.MergeOutcome.{IsMergeOutcome, merged_names};
 ghost use Rattle.cmd_merge.specs.Planning.{additions, planned};
 
@@ -73,7 +73,7 @@ fn carry_out<S: Shelf>(
     requires room { length bytes.old ≡ most_bytes }
     requires plan { ForSome (S.held shelf.old) (λ files. plan.items ≡ map (planned from.now to.now files) (entries_in from.now files)) }
     ensures leaves { IfSome (S.held shelf.old) (λ files. Leaves (IsMergeOutcome from.now to.now files) files result (S.held shelf.new)) }
-    ensures crashes { CrashSafe (IsMergeOutcome from.now to.now) (IsOk result) (S.crashes shelf.old) (S.crashes shelf.new) }
+    ensures crashes { CrashSafe (IsMergeOutcome from.now to.now) (ComesToEnd result) (S.crashes shelf.old) (S.crashes shelf.new) }
     ensures cause { EndsWithCause (S.faults shelf.old) (S.faults shelf.new) result }
     ensures later { NoneFell (S.faults shelf.old) (S.faults shelf.new) }
     ensures taken { IfSome (S.held shelf.old) (λ files. Takes (lengths_of (entries_in from.now files) files) result (S.taken shelf.old) (S.taken shelf.new)) }
@@ -89,7 +89,7 @@ fn carry_out<S: Shelf>(
 pub fn merge<F: Folder>(alloc: Global, shelf: &mut F, from: &str, to: &str) -> Result<Answer, Stop>
     requires from { ends_in_slash from.now ≡ true }
     ensures leaves { IfSome (F.held shelf.old) (λ files. Leaves (IsMergeOutcome from.now to.now files) files result (F.held shelf.new)) }
-    ensures crashes { CrashSafe (IsMergeOutcome from.now to.now) (IsOk result) (F.crashes shelf.old) (F.crashes shelf.new) }
+    ensures crashes { CrashSafe (IsMergeOutcome from.now to.now) (ComesToEnd result) (F.crashes shelf.old) (F.crashes shelf.new) }
     ensures cause { EndsWithCause (F.faults shelf.old) (F.faults shelf.new) result }
     ensures later { NoneFell (F.faults shelf.old) (F.faults shelf.new) }
     ensures taken { IfSome (F.held shelf.old) (λ files. Takes (3 * lengths_of (merged_names from.now to.now files) files) result (F.taken shelf.old) (F.taken shelf.new)) }

@@ -1,7 +1,7 @@
 //! The command `register`: the parity of a rip, stored as a record.
 #![tactic(auto)]
 
-ghost use Rattle.std.specs.Prelude.{◌≡◌, ◌*◌, ◌∷◌, [], IfSome, IsOk, None};
+ghost use Rattle.std.specs.Prelude.{◌≡◌, ◌*◌, ◌∷◌, [], IfSome, None};
 ghost use Rattle.std.specs.Option.{ForSome};
 ghost use Rattle.std.specs.FinMap.{get};
 ghost use Rattle.rip_outside.specs.Outputs.{part_of};
@@ -10,7 +10,7 @@ ghost use Rattle.disc_toc.specs.Toc.{toc_of};
 ghost use Rattle.image_mender.specs.Joined.{AreInFiles, joined_words, word_count};
 ghost use Rattle.rip_inputs.specs.Opening.{lengths_of, names_read};
 ghost use Rattle.column_map.specs.Npar.{parity_words};
-ghost use Rattle.engine_steps.specs.Steps.{EndsWithCause, Takes};
+ghost use Rattle.engine_steps.specs.Steps.{ComesToEnd, EndsWithCause, Takes};
 ghost use Rattle.rip_report.specs.Texts.{registered_line};
 ghost use Rattle.engine_steps.specs.Crashing.{CrashSafe};
 ghost use Rattle.cmd_register.specs.RegisterOutcome.{IsRegisterOutcome};
@@ -46,7 +46,7 @@ fn store<S: Shelf>(
     requires shape { shape ≡ layout.sectors }
     requires count { word_count image.now ≡ 1176 * shape }
     ensures leaves { IfSome (S.held shelf.old) (λ files. Leaves (λ o. o ≡ written (registered_line name.now layout.sectors (parity_words npar)) (output name.now (record_of (parity_words npar) (toc_of layout) (joined_words image.now files)) ∷ [])) files result (S.held shelf.new)) }
-    ensures crashes { CrashSafe (λ files o. o ≡ written (registered_line name.now layout.sectors (parity_words npar)) (output name.now (record_of (parity_words npar) (toc_of layout) (joined_words image.now files)) ∷ [])) (IsOk result) (S.crashes shelf.old) (S.crashes shelf.new) }
+    ensures crashes { CrashSafe (λ files o. o ≡ written (registered_line name.now layout.sectors (parity_words npar)) (output name.now (record_of (parity_words npar) (toc_of layout) (joined_words image.now files)) ∷ [])) (ComesToEnd result) (S.crashes shelf.old) (S.crashes shelf.new) }
     ensures cause { EndsWithCause (S.faults shelf.old) (S.faults shelf.new) result }
     ensures later { NoneFell (S.faults shelf.old) (S.faults shelf.new) }
     ensures taken { Takes (2 * word_count image.now) result (S.taken shelf.old) (S.taken shelf.new) }
@@ -80,7 +80,7 @@ pub fn register<S: Shelf>(
     npar: Npar,
 ) -> Result<Answer, Stop>
     ensures leaves { IfSome (S.held shelf.old) (λ files. Leaves (IsRegisterOutcome input.now rec.now (parity_words npar) files) files result (S.held shelf.new)) }
-    ensures crashes { CrashSafe (IsRegisterOutcome input.now rec.now (parity_words npar)) (IsOk result) (S.crashes shelf.old) (S.crashes shelf.new) }
+    ensures crashes { CrashSafe (IsRegisterOutcome input.now rec.now (parity_words npar)) (ComesToEnd result) (S.crashes shelf.old) (S.crashes shelf.new) }
     ensures cause { EndsWithCause (S.faults shelf.old) (S.faults shelf.new) result }
     ensures later { NoneFell (S.faults shelf.old) (S.faults shelf.new) }
     ensures taken { IfSome (S.held shelf.old) (λ files. Takes (3 * lengths_of (names_read input.now files) files) result (S.taken shelf.old) (S.taken shelf.new)) }

@@ -1,7 +1,7 @@
 //! The command `repair`: a rip is written anew, mended by a record.
 #![tactic(auto)]
 
-ghost use Rattle.std.specs.Prelude.{◌≡◌, ◌≢◌, ◌*◌, ◌<◌, ◌∷◌, [], All, IfSome, IfOk, IsOk, None};
+ghost use Rattle.std.specs.Prelude.{◌≡◌, ◌≢◌, ◌*◌, ◌<◌, ◌∷◌, [], All, IfSome, IfOk, None};
 ghost use Rattle.std.specs.Option.{ForSome};
 ghost use Rattle.std.specs.List.Sorted.{IsStrictlyIncreasing};
 ghost use Rattle.std.specs.FinMap.{get};
@@ -13,7 +13,7 @@ ghost use Rattle.wav_frames.specs.Wav.{wav_bytes};
 ghost use Rattle.image_mender.specs.declared.image.Part.{Part};
 ghost use Rattle.image_mender.specs.Joined.{AreInFiles, joined_words, word_count};
 ghost use Rattle.image_mender.specs.Patched.{patched};
-ghost use Rattle.engine_steps.specs.Steps.{EndsWithCause, StopsWithCause, Takes, compared};
+ghost use Rattle.engine_steps.specs.Steps.{ComesToEnd, EndsWithCause, StopsWithCause, Takes, compared};
 ghost use Rattle.engine_search.specs.Agreement.{TakesCompared};
 ghost use Rattle.engine_search.specs.Picking.{PicksCompared};
 ghost use Rattle.rip_report.specs.Texts.{written_text};
@@ -54,7 +54,7 @@ fn write_repair<S: Shelf>(
     requires rising { IsStrictlyIncreasing (places picked.now.fixes.items) }
     requires lie { All (λ place. place < word_count image.now) (places picked.now.fixes.items) }
     ensures leaves { IfSome (S.held shelf.old) (λ files. Leaves (λ o. o ≡ written (written_text picked.now.at to.now) (output to.now (wav_bytes (patched picked.now.fixes.items (joined_words image.now files))) ∷ [])) files (answer_told result) (S.held shelf.new)) }
-    ensures crashes { CrashSafe (λ files o. o ≡ written (written_text picked.now.at to.now) (output to.now (wav_bytes (patched picked.now.fixes.items (joined_words image.now files))) ∷ [])) (IsOk result) (S.crashes shelf.old) (S.crashes shelf.new) }
+    ensures crashes { CrashSafe (λ files o. o ≡ written (written_text picked.now.at to.now) (output to.now (wav_bytes (patched picked.now.fixes.items (joined_words image.now files))) ∷ [])) (ComesToEnd result) (S.crashes shelf.old) (S.crashes shelf.new) }
     ensures at { IfOk result (λ told. told.0 ≡ picked.now.at) }
     ensures cause { StopsWithCause (S.faults shelf.old) (S.faults shelf.new) result }
     ensures later { NoneFell (S.faults shelf.old) (S.faults shelf.new) }
@@ -94,7 +94,7 @@ pub fn mend<S: Shelf>(
 ) -> Result<(Candidate, Text), Stop>
     requires { IfSome offset IsOffset }
     ensures leaves { IfSome (S.held shelf.old) (λ files. Leaves (IsRepairOutcome input.now rec.now to.now offset files) files (answer_told result) (S.held shelf.new)) }
-    ensures crashes { CrashSafe (IsRepairOutcome input.now rec.now to.now offset) (IsOk result) (S.crashes shelf.old) (S.crashes shelf.new) }
+    ensures crashes { CrashSafe (IsRepairOutcome input.now rec.now to.now offset) (ComesToEnd result) (S.crashes shelf.old) (S.crashes shelf.new) }
     ensures picks { IfSome (S.held shelf.old) (λ files. IfOk result (λ told. PicksCompared (compared input.now rec.now files) offset told.0)) }
     ensures cause { StopsWithCause (S.faults shelf.old) (S.faults shelf.new) result }
     ensures later { NoneFell (S.faults shelf.old) (S.faults shelf.new) }
@@ -127,7 +127,7 @@ pub fn repair<S: Shelf>(
 ) -> Result<Answer, Stop>
     requires { IfSome offset IsOffset }
     ensures leaves { IfSome (S.held shelf.old) (λ files. Leaves (IsRepairOutcome input.now rec.now to.now offset files) files result (S.held shelf.new)) }
-    ensures crashes { CrashSafe (IsRepairOutcome input.now rec.now to.now offset) (IsOk result) (S.crashes shelf.old) (S.crashes shelf.new) }
+    ensures crashes { CrashSafe (IsRepairOutcome input.now rec.now to.now offset) (ComesToEnd result) (S.crashes shelf.old) (S.crashes shelf.new) }
     ensures cause { EndsWithCause (S.faults shelf.old) (S.faults shelf.new) result }
     ensures later { NoneFell (S.faults shelf.old) (S.faults shelf.new) }
     ensures taken { IfSome (S.held shelf.old) (λ files. TakesCompared (compared input.now rec.now files) offset 3 (lengths_of (compared_names input.now rec.now files) files) result (S.taken shelf.old) (S.taken shelf.new)) }

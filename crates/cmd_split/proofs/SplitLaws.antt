@@ -1,14 +1,10 @@
 -- The files of a disc that is split.
-use Rattle.std.proofs.Common.{◌≡◌, ◌≢◌, ◌∙◌, ℕ, ◌+◌, ◌/◌, ◌%◌, ◌<◌, ◌≤◌, List, [], ◌∷◌, ◌++◌, length, map, drop, get_or, Ok, sym, ap, subst, arith, length-append}
-use Rattle.std.specs.Prelude.{All, AllPairs, Contains, codes}
-use Rattle.std.specs.List.{range_with_len}
+use Rattle.std.proofs.Common.{◌≡◌, ◌∙◌, ℕ, ◌<◌, List, length, map, get_or, Ok, sym, subst, arith}
+use Rattle.std.specs.Prelude.{All, Contains}
 use Rattle.std.proofs.lemmas.List.{get_or-map, length-map}
-use Rattle.std.proofs.lemmas.List.FromFn.{get_or-map-range_with_len, length-map-range_with_len}
-use Rattle.std.proofs.lemmas.List.Quantifiers.{all_pairs_push}
 use Rattle.rip_outside.specs.Files.{Files}
 use Rattle.image_mender.specs.declared.image.Part.{Part}
 use Rattle.rip_inputs.specs.Opening.{Opened}
-use Rattle.track_split.specs.Sheets.{track_file}
 use Rattle.track_split.specs.Tracks.{split_names}
 use Rattle.engine_steps.specs.Outcome.{Outcome}
 use Rattle.engine_steps.specs.Steps.{free, opened}

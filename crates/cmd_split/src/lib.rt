@@ -1,7 +1,7 @@
 //! The command `split`: each track of a rip as a file of its own, and their sheet.
 #![tactic(auto)]
 
-ghost use Rattle.std.specs.Prelude.{◌≡◌, ◌*◌, List, ℕ, All, Contains, IfSome, IsOk, None, length, map};
+ghost use Rattle.std.specs.Prelude.{◌≡◌, ◌*◌, List, ℕ, All, Contains, IfSome, None, length, map};
 ghost use Rattle.std.specs.Option.{ForSome};
 ghost use Rattle.std.specs.FinMap.{get};
 ghost use Rattle.rip_outside.specs.Causes.{NoneFell};
@@ -14,7 +14,7 @@ ghost use Rattle.track_split.specs.Tracks.{split_names, split_outputs};
 ghost use Rattle.rip_report.specs.Texts.{split_line};
 ghost use Rattle.engine_steps.specs.Crashing.{CrashSafe};
 ghost use Rattle.engine_steps.specs.Outcome.{Leaves, written};
-ghost use Rattle.engine_steps.specs.Steps.{EndsWithCause, Takes};
+ghost use Rattle.engine_steps.specs.Steps.{ComesToEnd, EndsWithCause, Takes};
 ghost use Rattle.cmd_split.specs.SplitOutcome.{IsSplitOutcome};
 
 use disc_toc::Layout;
@@ -45,7 +45,7 @@ fn write_split<S: Shelf>(
     requires apart { All (λ (p : Part). Contains parts.now p.name → ⊥) image.now }
     requires count { word_count image.now ≡ 1176 * layout.now.sectors }
     ensures leaves { IfSome (S.held shelf.old) (λ files. Leaves (λ o. o ≡ written (split_line folder.now (length layout.now.starts)) (split_outputs folder.now (toc_of layout.now) (joined_words image.now files))) files result (S.held shelf.new)) }
-    ensures crashes { CrashSafe (λ files o. o ≡ written (split_line folder.now (length layout.now.starts)) (split_outputs folder.now (toc_of layout.now) (joined_words image.now files))) (IsOk result) (S.crashes shelf.old) (S.crashes shelf.new) }
+    ensures crashes { CrashSafe (λ files o. o ≡ written (split_line folder.now (length layout.now.starts)) (split_outputs folder.now (toc_of layout.now) (joined_words image.now files))) (ComesToEnd result) (S.crashes shelf.old) (S.crashes shelf.new) }
     ensures cause { EndsWithCause (S.faults shelf.old) (S.faults shelf.new) result }
     ensures later { NoneFell (S.faults shelf.old) (S.faults shelf.new) }
     ensures taken { Takes (2 * word_count image.now) result (S.taken shelf.old) (S.taken shelf.new) }
@@ -74,7 +74,7 @@ pub fn split<S: Shelf>(
     folder: &str,
 ) -> Result<Answer, Stop>
     ensures leaves { IfSome (S.held shelf.old) (λ files. Leaves (IsSplitOutcome input.now folder.now files) files result (S.held shelf.new)) }
-    ensures crashes { CrashSafe (IsSplitOutcome input.now folder.now) (IsOk result) (S.crashes shelf.old) (S.crashes shelf.new) }
+    ensures crashes { CrashSafe (IsSplitOutcome input.now folder.now) (ComesToEnd result) (S.crashes shelf.old) (S.crashes shelf.new) }
     ensures cause { EndsWithCause (S.faults shelf.old) (S.faults shelf.new) result }
     ensures later { NoneFell (S.faults shelf.old) (S.faults shelf.new) }
     ensures taken { IfSome (S.held shelf.old) (λ files. Takes (3 * lengths_of (names_read input.now files) files) result (S.taken shelf.old) (S.taken shelf.new)) }

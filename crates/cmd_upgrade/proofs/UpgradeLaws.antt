@@ -1,6 +1,6 @@
 -- The outcome of `upgrade`.
-use Rattle.std.proofs.Common.{◌≡◌, ◌≢◌, ◌∙◌, ◌*◌, ◌≤◌, ◌++◌, ℕ, List, [], ◌∷◌, Bool, true, false, cond, Option, None, Some, IfSome, Result, Ok, Err, arith, refl, sym, ap, ap₂, subst}
-use Rattle.std.specs.Prelude.{◌==◌, is_some}
+use Rattle.std.proofs.Common.{◌≡◌, ◌∙◌, ◌*◌, ◌≤◌, ◌++◌, ℕ, List, [], ◌∷◌, true, Option, None, Some, IfSome, Result, Ok, Err, arith, refl, sym, ap, ap₂, subst}
+use Rattle.std.specs.Prelude.{is_some}
 use Rattle.rip_outside.specs.Files.{Files, IsHeld}
 use Rattle.rip_outside.proofs.FilesLaws.{if_told_both, if_told_weaker}
 use Rattle.std.specs.FinMap.{get}
@@ -16,8 +16,7 @@ use Rattle.parity_store.specs.Record.{record_bytes_of}
 use Rattle.rip_inputs.specs.Opening.{Opened}
 use Rattle.rip_report.specs.Texts.{upgraded_text}
 use Rattle.rip_report.specs.declared.status.Status.{Status}
-use Rattle.rip_report.specs.declared.status.Status.TheVariants.{Mendable}
-use Rattle.engine_steps.specs.Outcome.{Outcome, Leaves, Then, ThenOf, output, refused, written}
+use Rattle.engine_steps.specs.Outcome.{Outcome, Leaves, Then, ThenOf, output, written}
 use Rattle.engine_steps.specs.Comparing.{both_of, known_of}
 use Rattle.engine_steps.specs.Steps.{Does, Known, Takes, and_then, compared, known_by, measured, record_found, recorded, same_layout}
 use Rattle.engine_steps.specs.declared.comparing.Compared.{Compared}

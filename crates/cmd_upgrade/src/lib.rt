@@ -1,7 +1,7 @@
 //! The command `upgrade`: a record without a seal gets that of a rip without wrong words.
 #![tactic(auto)]
 
-ghost use Rattle.std.specs.Prelude.{◌≡◌, ◌*◌, ℕ, List, false, IfSome, IfOk, IsOk, None};
+ghost use Rattle.std.specs.Prelude.{◌≡◌, ◌*◌, ℕ, List, false, IfSome, IfOk, None};
 ghost use Rattle.std.specs.List.{list_any};
 ghost use Rattle.std.specs.Str.{bytes_eq};
 ghost use Rattle.std.specs.Option.{ForSome};
@@ -16,7 +16,7 @@ ghost use Rattle.rip_inputs.specs.Opening.{lengths_of};
 ghost use Rattle.engine_steps.specs.Comparing.{compared_names};
 ghost use Rattle.engine_steps.specs.Crashing.{CrashSafe};
 ghost use Rattle.engine_steps.specs.Outcome.{Leaves};
-ghost use Rattle.engine_steps.specs.Steps.{Does, EndsWithCause, OnlyRefuses, Takes, known_from};
+ghost use Rattle.engine_steps.specs.Steps.{ComesToEnd, Does, EndsWithCause, OnlyRefuses, Takes, known_from};
 ghost use Rattle.engine_search.specs.Picking.{LieInColumns, Mends};
 ghost use Rattle.cmd_upgrade.specs.UpgradeOutcome.{IsSealedOutcome, IsUpgradeOutcome, upgradable};
 
@@ -78,7 +78,7 @@ fn seal_record<S: Shelf>(
     requires lie { LieInColumns (per_column shape) picked.now.at.offset picked.now.fixes.items }
     requires mends { IfSome (S.held shelf.old) (λ files. Mends (known_from shape (joined_words image.now files) (parity_count parity) (parity_rows parity) None) picked.now.at picked.now.fixes.items) }
     ensures leaves { IfSome (S.held shelf.old) (λ files. Leaves (IsSealedOutcome name.now (toc_of layout) (known_from shape (joined_words image.now files) (parity_count parity) (parity_rows parity) None) picked.now.at) files result (S.held shelf.new)) }
-    ensures crashes { CrashSafe (λ files. IsSealedOutcome name.now (toc_of layout) (known_from shape (joined_words image.now files) (parity_count parity) (parity_rows parity) None) picked.now.at) (IsOk result) (S.crashes shelf.old) (S.crashes shelf.new) }
+    ensures crashes { CrashSafe (λ files. IsSealedOutcome name.now (toc_of layout) (known_from shape (joined_words image.now files) (parity_count parity) (parity_rows parity) None) picked.now.at) (ComesToEnd result) (S.crashes shelf.old) (S.crashes shelf.new) }
     ensures cause { EndsWithCause (S.faults shelf.old) (S.faults shelf.new) result }
     ensures later { NoneFell (S.faults shelf.old) (S.faults shelf.new) }
     ensures taken { Takes (2 * word_count image.now) result (S.taken shelf.old) (S.taken shelf.new) }
@@ -122,7 +122,7 @@ pub fn upgrade<S: Shelf>(
     rec: &str,
 ) -> Result<Answer, Stop>
     ensures leaves { IfSome (S.held shelf.old) (λ files. Leaves (IsUpgradeOutcome input.now rec.now files) files result (S.held shelf.new)) }
-    ensures crashes { CrashSafe (IsUpgradeOutcome input.now rec.now) (IsOk result) (S.crashes shelf.old) (S.crashes shelf.new) }
+    ensures crashes { CrashSafe (IsUpgradeOutcome input.now rec.now) (ComesToEnd result) (S.crashes shelf.old) (S.crashes shelf.new) }
     ensures cause { EndsWithCause (S.faults shelf.old) (S.faults shelf.new) result }
     ensures later { NoneFell (S.faults shelf.old) (S.faults shelf.new) }
     ensures taken { IfSome (S.held shelf.old) (λ files. Takes (3 * lengths_of (compared_names input.now rec.now files) files) result (S.taken shelf.old) (S.taken shelf.new)) }

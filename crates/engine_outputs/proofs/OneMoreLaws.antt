@@ -9,26 +9,24 @@ use Rattle.rip_outside.specs.Crashes.Outlook.{Untold, Foretold}
 use Rattle.rip_outside.specs.declared.fault.ShelfCall.TheVariants.{Rename}
 use Rattle.rip_outside.proofs.FilesLaws.{becomes_same, becomes_twice}
 use Rattle.rip_outside.proofs.OutputLaws.{after_next, puts_all, puts_next, puts_none, puts_stopped}
-use Rattle.rip_outside.proofs.CrashLaws.{foretold_weaker}
+use Rattle.rip_outside.proofs.CrashLaws.{foretold_thrice, foretold_weaker}
 use Rattle.rip_outside.proofs.StoreLaws.{stores_otherwise}
 use Rattle.rip_report.specs.declared.status.Status.TheVariants.{Done}
 use Rattle.engine_steps.specs.Crashing.{CrashLeaves, CrashSafe}
 use Rattle.engine_steps.specs.Outcome.{Leaves, Outcome, written}
+use Rattle.engine_steps.specs.Steps.{ComesToEnd}
 use Rattle.engine_steps.specs.declared.steps.Answer.{Answer}
 use Rattle.engine_steps.specs.declared.steps.Stop.{Stop}
 use Rattle.engine_steps.specs.declared.steps.Stop.TheVariants.{Refused, ReadFault as ReadStop, WriteFault as WriteStop, Oom as WantStop}
 use Rattle.engine_steps.proofs.Leaving.{leaves_name}
 use Rattle.engine_outputs.specs.Writing.{RefusesNothing}
 
--- three moments of a shelf, with what it holds
-foretold_thrice : (R S Q : Crashes → Crashes → Type 0) (h0 h1 h2 : Option Files) (o0 o1 o2 : Outlook) → TellsHeld h0 o0 → TellsHeld h1 o1 → TellsHeld h2 o2 → WhereForetold R o0 o1 → WhereForetold S o1 o2
-    → ((a b c : Crashes) → h0 ≡ Some a.files → h1 ≡ Some b.files → h2 ≡ Some c.files → R a b → S b c → Q a c) → WhereForetold Q o0 o2
-foretold_thrice R S Q h0 h1 h2 Untold Untold Untold t0 t1 t2 r s step = tt
-foretold_thrice R S Q h0 h1 h2 Untold Untold (Foretold c) t0 t1 t2 r s step = s
-foretold_thrice R S Q h0 h1 h2 Untold (Foretold b) o2 t0 t1 t2 r s step = absurd r
-foretold_thrice R S Q h0 h1 h2 (Foretold a) Untold o2 t0 t1 t2 r s step = absurd r
-foretold_thrice R S Q h0 h1 h2 (Foretold a) (Foretold b) Untold t0 t1 t2 r s step = s
-foretold_thrice R S Q h0 h1 h2 (Foretold a) (Foretold b) (Foretold c) t0 t1 t2 r s step = step a b c t0 t1 t2 r s
+-- a stop that refuses nothing is no end of a command
+pub refusing_none : {T : Type 0} (stop : Stop) (result : Result T Stop) → result ≡ Err stop → RefusesNothing stop → ComesToEnd result → ⊥
+refusing_none (Refused status) result is writes ends = writes
+refusing_none (ReadStop call) result is writes ends = rw is at ends
+refusing_none (WriteStop call) result is writes ends = rw is at ends
+refusing_none WantStop result is writes ends = rw is at ends
 
 module _ (outs : Files → List Output) (text : List ℕ) where
   -- the outcome of them all
@@ -110,7 +108,7 @@ module _ (outs : Files → List Output) (text : List ℕ) where
         puts_next (outs a.files) i record { name = to; bytes = bytes a.files } well a b c fit.here puts (whole_output well a b c fit puts.files s) went files_are)
 
     -- and where it isn't written, some stand
-    pub put_stopped : (well well' : Type 0) (h0 h1 h2 : Option Files) (o0 o1 o2 : Outlook) → TellsHeld h0 o0 → TellsHeld h1 o1 → TellsHeld h2 o2 → ForSome h0 Fits → (well → ⊥) → (well' → ⊥)
+    pub put_stopped : (well well' : Type 0) (h0 h1 h2 : Option Files) (o0 o1 o2 : Outlook) → TellsHeld h0 o0 → TellsHeld h1 o1 → TellsHeld h2 o2 → ForSome h0 Fits → (well → ⊥) → ForSome h0 (λ _. well' → ⊥)
         → WhereForetold (λ a b. PutsSome (outs a.files) i a b) o0 o1 → WhereForetold (StoresWhole (λ old left. LeavesName part to (make old) (Unit {0}) old left) well) o1 o2
         → CrashSafe all_of well' o0 o2
     put_stopped well well' h0 h1 h2 o0 o1 o2 t0 t1 t2 fits never never' so_far stores =
@@ -118,7 +116,7 @@ module _ (outs : Files → List Output) (text : List ℕ) where
         h0 h1 h2 o0 o1 o2 t0 t1 t2 so_far stores
         (λ a b c is0 is1 is2 puts s.
         let fit = fits a.files is0 in
-        stores_otherwise (MayStand (outs a.files)) (λ old left. CrashLeaves (all_of old) old left) well well' a c (λ left stand. stand_leaves a.files left stand) (λ w. absurd (never' w))
+        stores_otherwise (MayStand (outs a.files)) (λ old left. CrashLeaves (all_of old) old left) well well' a c (λ left stand. stand_leaves a.files left stand) (λ w. absurd (never' a.files is0 w))
         (puts_stopped (outs a.files) i record { name = to; bytes = bytes a.files } well a b c fit.here puts (whole_output well a b c fit puts.files s) never))
 
     stopped_at : (files : Files) (e : Stop) (h : Option Files) → Fits files → RefusesNothing e

@@ -11,7 +11,7 @@ ghost use Rattle.wav_frames.specs.Wav.{wav_bytes};
 ghost use Rattle.image_mender.specs.declared.image.Part.{Part};
 ghost use Rattle.image_mender.specs.Joined.{AreInFiles, joined_words, word_count};
 ghost use Rattle.engine_steps.specs.declared.steps.Stop.{Stop};
-ghost use Rattle.engine_steps.specs.Steps.{EndsWithCause, StopsWithCause, Takes};
+ghost use Rattle.engine_steps.specs.Steps.{ComesToEnd, EndsWithCause, StopsWithCause, Takes};
 ghost use Rattle.engine_steps.specs.Outcome.{Leaves, written};
 ghost use Rattle.engine_steps.specs.Crashing.{CrashSafe};
 ghost use Rattle.engine_outputs.specs.Writing.{RefusesNothing, image_outputs};
@@ -96,7 +96,7 @@ pub fn write_files<S: Shelf>(
     requires inside { ForSome (S.held shelf.old) (λ files. All (λ image. AreInFiles image files) images.now) }
     requires apart { All (λ (image : List Part). All (λ (p : Part). Contains parts.now p.name → ⊥) image) images.now }
     ensures leaves { IfSome (S.held shelf.old) (λ files. Leaves (λ o. o ≡ written text (image_outputs outs.now images.now sheet.now files)) files result (S.held shelf.new)) }
-    ensures crashes { CrashSafe (λ files o. o ≡ written text (image_outputs outs.now images.now sheet.now files)) (IsOk result) (S.crashes shelf.old) (S.crashes shelf.new) }
+    ensures crashes { CrashSafe (λ files o. o ≡ written text (image_outputs outs.now images.now sheet.now files)) (ComesToEnd result) (S.crashes shelf.old) (S.crashes shelf.new) }
     ensures cause { EndsWithCause (S.faults shelf.old) (S.faults shelf.new) result }
     ensures later { NoneFell (S.faults shelf.old) (S.faults shelf.new) }
     ensures taken { Takes (2 * sum_by word_count images.now) result (S.taken shelf.old) (S.taken shelf.new) }

@@ -1,5 +1,5 @@
 -- What a crash may leave while a command runs, step by step.
-use Rattle.std.proofs.Common.{◌≡◌, ℕ, List, [], ◌∷◌, Option, inl, inr, refl, subst}
+use Rattle.std.proofs.Common.{◌≡◌, ℕ, List, [], ◌∷◌, Option, Result, Err, inl, inr, refl, subst}
 use Rattle.std.specs.Option.{ForSome}
 use Rattle.rip_outside.specs.Files.{Files, LeavesName}
 use Rattle.rip_outside.specs.Outputs.{part_of}
@@ -9,6 +9,13 @@ use Rattle.rip_outside.proofs.OutputLaws.{some_stand}
 use Rattle.rip_outside.proofs.StoreLaws.{told_rests_stores, told_rests_then_stores, told_stores_otherwise, stores_otherwise}
 use Rattle.engine_steps.specs.Outcome.{Outcome, output, written}
 use Rattle.engine_steps.specs.Crashing.{CrashLeaves, CrashSafe}
+use Rattle.engine_steps.specs.Steps.{ComesToEnd, mend_stop, stop_of}
+use Rattle.engine_steps.specs.declared.steps.Stop.{Stop}
+use Rattle.engine_steps.specs.declared.steps.Stop.TheVariants.{Refused, ReadFault as ReadStop, WriteFault as WriteStop, Oom as WantStop}
+use Rattle.parity_store.specs.declared.storing.PutFail.{PutFail}
+use Rattle.parity_store.specs.declared.storing.PutFail.TheVariants.{WriteFault, Oom}
+use Rattle.image_mender.specs.declared.mending.MendFail.{MendFail}
+use Rattle.image_mender.specs.declared.mending.MendFail.TheVariants.{ReadFault as MendReadFault, WriteFault as MendWriteFault, Oom as MendOom}
 
 -- calls that only read
 pub safe_rests : (is : Files → Outcome → Type 0) (went_well : Type 0) (o0 o1 : Outlook) → WhereForetold Rests o0 o1 → CrashSafe is went_well o0 o1
@@ -58,3 +65,23 @@ module _ (part out text : List ℕ) (make : Files → List ℕ) where
   safe_put well well' o0 o1 is goes put =
       foretold_weaker (StoresWhole puts well) (StoresWhole (λ old left. CrashLeaves (one old) old left) well') o0 o1 put
       (λ a b r. stores_otherwise puts (λ old left. CrashLeaves (one old) old left) well well' a b (λ left l. put_leaves a.files left is l) goes r)
+
+-- ---- whether a command comes to its end
+
+-- a put that fails keeps it from that
+pub put_ends_none : {T : Type 0} (fail : PutFail) (result : Result T Stop) → result ≡ Err (stop_of fail) → ComesToEnd result → ⊥
+put_ends_none (WriteFault call) result is ends = rw is at ends
+put_ends_none Oom result is ends = rw is at ends
+
+-- and so does a mending that fails
+pub mend_ends_none : {T : Type 0} (fail : MendFail) (result : Result T Stop) → result ≡ Err (mend_stop fail) → ComesToEnd result → ⊥
+mend_ends_none (MendReadFault call) result is ends = rw is at ends
+mend_ends_none (MendWriteFault call) result is ends = rw is at ends
+mend_ends_none MendOom result is ends = rw is at ends
+
+-- two that stop in the same way come both to their end, or neither does
+pub same_end : {T U : Type 0} (stop : Stop) (result : Result T Stop) (other : Result U Stop) → result ≡ Err stop → other ≡ Err stop → ComesToEnd other → ComesToEnd result
+same_end (Refused status) result other is other_is ends = rw is tt
+same_end (ReadStop call) result other is other_is ends = let no : ⊥ = rw other_is at ends in absurd no
+same_end (WriteStop call) result other is other_is ends = let no : ⊥ = rw other_is at ends in absurd no
+same_end WantStop result other is other_is ends = let no : ⊥ = rw other_is at ends in absurd no

@@ -211,6 +211,14 @@ OnlyRefuses (Err (ReadStop call)) = ⊥
 OnlyRefuses (Err (WriteStop call)) = ⊥
 OnlyRefuses (Err WantStop) = Unit {0}
 
+-- it answers or refuses: it ends neither in a fault nor for want of memory
+abbrev pub ComesToEnd : {T : Type 0} → Result T Stop → Type 0
+ComesToEnd (Ok found) = Unit {0}
+ComesToEnd (Err (Refused status)) = Unit {0}
+ComesToEnd (Err (ReadStop call)) = ⊥
+ComesToEnd (Err (WriteStop call)) = ⊥
+ComesToEnd (Err WantStop) = ⊥
+
 -- how a rip's failure is passed on
 abbrev pub rip_stop : RipFail → Stop
 rip_stop (RipFault call) = ReadStop call

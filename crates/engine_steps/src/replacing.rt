@@ -1,10 +1,10 @@
 // The last step of a command that writes a held file anew.
-ghost use Rattle.std.specs.Prelude.{◌≡◌, ◌∷◌, [], IfSome, IsOk};
+ghost use Rattle.std.specs.Prelude.{◌≡◌, ◌∷◌, [], IfSome};
 ghost use Rattle.std.specs.Option.{ForSome};
 ghost use Rattle.rip_outside.specs.Files.{IsHeld};
 ghost use Rattle.rip_outside.specs.Outputs.{part_of};
 ghost use Rattle.rip_outside.specs.Causes.{NoneFell};
-ghost use Rattle.engine_steps.specs.Steps.{EndsWithCause};
+ghost use Rattle.engine_steps.specs.Steps.{ComesToEnd, EndsWithCause};
 ghost use Rattle.engine_steps.specs.Outcome.{Leaves, output, written};
 ghost use Rattle.engine_steps.specs.Crashing.{CrashSafe};
 
@@ -25,7 +25,7 @@ pub fn replace_out<S: Shelf>(
     requires part { part.now ≡ part_of out.now }
     requires held { ForSome (S.held shelf.old) (IsHeld out.now) }
     ensures leaves { IfSome (S.held shelf.old) (λ files. Leaves (λ o. o ≡ written text (output out.now bytes.now ∷ [])) files result (S.held shelf.new)) }
-    ensures crashes { CrashSafe (λ _ o. o ≡ written text (output out.now bytes.now ∷ [])) (IsOk result) (S.crashes shelf.old) (S.crashes shelf.new) }
+    ensures crashes { CrashSafe (λ _ o. o ≡ written text (output out.now bytes.now ∷ [])) (ComesToEnd result) (S.crashes shelf.old) (S.crashes shelf.new) }
     ensures cause { EndsWithCause (S.faults shelf.old) (S.faults shelf.new) result }
     ensures later { NoneFell (S.faults shelf.old) (S.faults shelf.new) }
     ensures taken { S.taken shelf.new ≡ S.taken shelf.old }

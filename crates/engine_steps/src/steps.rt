@@ -1,5 +1,5 @@
 // The steps that commands share: each refuses with a status, or finds what the next one goes on with.
-ghost use Rattle.std.specs.Prelude.{◌≡◌, ◌*◌, ◌++◌, ◌∷◌, [], All, Contains, length, false, IfSome, IfOk, IsOk};
+ghost use Rattle.std.specs.Prelude.{◌≡◌, ◌*◌, ◌++◌, ◌∷◌, [], All, Contains, length, false, IfSome, IfOk};
 ghost use Rattle.std.specs.List.{list_any};
 ghost use Rattle.std.specs.Str.{bytes_eq};
 ghost use Rattle.std.specs.Option.{ForSome};
@@ -15,7 +15,7 @@ ghost use Rattle.image_mender.specs.declared.image.Part.{Part};
 ghost use Rattle.parity_store.specs.Reading.{stored_of};
 ghost use Rattle.rip_inputs.specs.Opening.{lengths_of, names_read};
 ghost use Rattle.rip_inputs.specs.Telling.{opened_of};
-ghost use Rattle.engine_steps.specs.Steps.{opened, measured, mend_stop, recorded, rip_stop, same_layout, freed, stop_of, Does, OnlyRefuses, EndsWithCause, ReadsWithCause, Takes};
+ghost use Rattle.engine_steps.specs.Steps.{opened, measured, mend_stop, recorded, rip_stop, same_layout, freed, stop_of, ComesToEnd, Does, OnlyRefuses, EndsWithCause, ReadsWithCause, Takes};
 ghost use Rattle.engine_steps.specs.Outcome.{Leaves, output, written};
 ghost use Rattle.engine_steps.specs.Crashing.{CrashSafe};
 
@@ -249,7 +249,7 @@ pub fn write_out<S: Shelf>(
     requires part { part.now ≡ part_of out.now }
     requires free { ForSome (S.held shelf.old) (λ files. get files out.now ≡ None) }
     ensures leaves { IfSome (S.held shelf.old) (λ files. Leaves (λ o. o ≡ written text (output out.now bytes.now ∷ [])) files result (S.held shelf.new)) }
-    ensures crashes { CrashSafe (λ _ o. o ≡ written text (output out.now bytes.now ∷ [])) (IsOk result) (S.crashes shelf.old) (S.crashes shelf.new) }
+    ensures crashes { CrashSafe (λ _ o. o ≡ written text (output out.now bytes.now ∷ [])) (ComesToEnd result) (S.crashes shelf.old) (S.crashes shelf.new) }
     ensures cause { EndsWithCause (S.faults shelf.old) (S.faults shelf.new) result }
     ensures later { NoneFell (S.faults shelf.old) (S.faults shelf.new) }
     ensures taken { S.taken shelf.new ≡ S.taken shelf.old }

@@ -1,5 +1,5 @@
 -- What is told of a command, from what its steps came to.
-use Rattle.std.specs.Prelude.{Result, Ok, Err, IfOk, IsOk}
+use Rattle.std.specs.Prelude.{Result, Ok, Err, IfOk}
 use Rattle.std.proofs.Common.{◌≡◌, ◌≢◌, ◌⊎◌, ℕ, List, [], ◌∷◌, Option, Some, IfSome, Result, Ok, Err, refl, sym, ◌∙◌, arith, inl, inr, ap, subst, None, ℤ}
 use Rattle.rip_outside.specs.Files.{Files}
 use Rattle.rip_outside.specs.Outputs.{Output, after_outputs}
@@ -9,7 +9,7 @@ use Rattle.rip_outside.proofs.FilesLaws.{if_told}
 use Rattle.rip_outside.specs.declared.fault.ShelfCall.{ShelfCall}
 use Rattle.rip_outside.specs.Crashes.{Outlook}
 use Rattle.rip_outside.specs.declared.fault.ShelfCall.TheVariants.{Rename}
-use Rattle.engine_steps.specs.Steps.{EndsWithCause, IsAnswered, Takes, IsStepRefusal, compared}
+use Rattle.engine_steps.specs.Steps.{ComesToEnd, EndsWithCause, IsAnswered, Takes, compared}
 use Rattle.engine_steps.specs.Outcome.{Outcome, Partly, refused, Leaves}
 use Rattle.rip_commands.specs.Outcomes.{IsOutcomeOf, IsMostCompared, IsMostTaken}
 use Rattle.rip_inputs.specs.Opening.{lengths_of}
@@ -198,16 +198,13 @@ no_file_usage word told is answered none = elim is [
 
 -- ---- what is told and answered
 
--- what is told as Done went well
-pub done_came : (came : Result Answer Stop) (told : Answer) (before now : ShelfCall → ℕ) → EndsWithCause before now came → TellsOf came told → told.status ≡ Done → IsOk came
-done_came (Ok answer) told before now cause tells is = refl
-done_came (Err (Refused status)) told before now cause tells is = elim tells [
-  | inl well ↦ let same : status ≡ Done = sym (ap (λ (a : Answer). a.status) well) ∙ is in absurd (subst IsStepRefusal same cause)
-  | inr want ↦ let clash : WantOfMemory ≡ Done = sym (ap (λ (a : Answer). a.status) want) ∙ is in let no : ⊥ = cc in absurd no
-]
-done_came (Err (ReadStop call)) told before now cause tells is = let clash : ReadFault call ≡ Done = sym (ap (λ (a : Answer). a.status) tells) ∙ is in let no : ⊥ = cc in absurd no
-done_came (Err (WriteStop call)) told before now cause tells is = let clash : WriteFault call ≡ Done = sym (ap (λ (a : Answer). a.status) tells) ∙ is in let no : ⊥ = cc in absurd no
-done_came (Err WantStop) told before now cause tells is = let clash : WantOfMemory ≡ Done = sym (ap (λ (a : Answer). a.status) tells) ∙ is in let no : ⊥ = cc in absurd no
+-- a command that told an answer came to its end
+pub answered_came : (came : Result Answer Stop) (told : Answer) → TellsOf came told → IsAnswered told.status → ComesToEnd came
+answered_came (Ok answer) told tells answered = tt
+answered_came (Err (Refused status)) told tells answered = tt
+answered_came (Err (ReadStop call)) told tells answered = rw tells at answered
+answered_came (Err (WriteStop call)) told tells answered = rw tells at answered
+answered_came (Err WantStop) told tells answered = rw tells at answered
 
 -- a status is an answer, a fault or want of memory
 pub status_kind : (s : Status) → IsAnswered s ⊎ ((call : ShelfCall) × (s ≡ ReadFault call)) ⊎ ((call : ShelfCall) × (s ≡ WriteFault call)) ⊎ (s ≡ SinkFault) ⊎ (s ≡ WantOfMemory)

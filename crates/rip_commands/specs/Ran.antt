@@ -129,6 +129,6 @@ ToldWithoutFiles read told = IsAnswered told.status → NeedsNoFile read →
 -- What the words of one command come to but for the printing, by the shelf before and after, and by what a stop may leave of it.
 pub record IsTold (read : Result Command ℕ) (before now : Look) (outlook later : Outlook) (told : Answer) : Type 0 where
   pub ran : Ran read before now told
-  pub crashes : CrashSafe (IsOutcomeOf read) (told.status ≡ Done) outlook later
+  pub crashes : CrashSafe (IsOutcomeOf read) (IsAnswered told.status) outlook later
   pub no_file : ToldWithoutFiles read told
   pub names : told.status ≡ Done → IfOk read NamesMayStand

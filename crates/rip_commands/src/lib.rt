@@ -3,7 +3,7 @@
 
 mod printing;
 
-ghost use Rattle.std.specs.Prelude.{◌≡◌, ◌⊎◌, ℕ, Result, Ok, IfSome, IfOk, IsOk};
+ghost use Rattle.std.specs.Prelude.{◌≡◌, ◌⊎◌, ℕ, Result, Ok, IfSome, IfOk};
 ghost use Rattle.rip_outside.specs.Files.{Files};
 ghost use Rattle.rip_words.specs.declared.Command.{Command};
 ghost use Rattle.engine_steps.specs.Outcome.{Outcome};
@@ -13,11 +13,10 @@ ghost use Rattle.rip_commands.specs.Look.{look};
 ghost use Rattle.column_map.specs.Columns.{IsOffset};
 ghost use Rattle.rip_words.specs.Command.{MayRunCommand, NamesMayStand, ReadsWords, TrialIsInRange, command_reading, offset_in, texts};
 ghost use Rattle.rip_report.specs.Texts.{read_fault_line, refusal_line, write_fault_line};
-ghost use Rattle.engine_steps.specs.Steps.{EndsWithCause, Takes};
+ghost use Rattle.engine_steps.specs.Steps.{ComesToEnd, EndsWithCause, IsAnswered, Takes};
 ghost use Rattle.rip_commands.specs.Outcomes.{IsCommandOutcome, IsOutcomeOf, IsMostTaken};
 ghost use Rattle.engine_steps.specs.Outcome.{Leaves};
 ghost use Rattle.engine_steps.specs.Crashing.{CrashSafe};
-ghost use Rattle.rip_report.specs.declared.status.Status.{Status};
 ghost use Rattle.rip_commands.specs.Ran.{AreFaultLines, Comes, FaultsOfCommand, IsTold, IsTrialRead, NeedsNoFile, Ran, TellsOf, ToldWithoutFiles, wanting, telling};
 
 use cmd_join::join;
@@ -45,7 +44,7 @@ fn perform<F: Folder>(alloc: Global, command: Command, shelf: &mut F) -> Result<
     requires trial { TrialIsInRange command }
     requires names { NamesMayStand command }
     ensures leaves { IfSome (F.held shelf.old) (λ files. Leaves (IsCommandOutcome command files) files result (F.held shelf.new)) }
-    ensures crashes { CrashSafe (IsCommandOutcome command) (IsOk result) (F.crashes shelf.old) (F.crashes shelf.new) }
+    ensures crashes { CrashSafe (IsCommandOutcome command) (ComesToEnd result) (F.crashes shelf.old) (F.crashes shelf.new) }
     ensures cause { EndsWithCause (F.faults shelf.old) (F.faults shelf.new) result }
     ensures later { NoneFell (F.faults shelf.old) (F.faults shelf.new) }
     ensures reads { FaultsOfCommand (Ok command) result }
@@ -170,7 +169,7 @@ pub fn tell<F: Folder>(alloc: Global, command: Command, shelf: &mut F) -> Answer
     requires trial { TrialIsInRange command }
     requires names { NamesMayStand command }
     ensures ran { Ran (Ok command) (look F.Shelf shelf.old) (look F.Shelf shelf.new) result }
-    ensures crashes { CrashSafe (IsOutcomeOf (Ok command)) (result.status ≡ Status.Done) (F.crashes shelf.old) (F.crashes shelf.new) }
+    ensures crashes { CrashSafe (IsOutcomeOf (Ok command)) (IsAnswered result.status) (F.crashes shelf.old) (F.crashes shelf.new) }
     ensures no_file { ToldWithoutFiles (Ok command) result }
 {
     let Ok(lines) = fault_lines(alloc) else {

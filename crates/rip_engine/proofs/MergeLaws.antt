@@ -1,8 +1,8 @@
 -- A merge holds both stores, by the outcome.
-use Rattle.std.proofs.Common.{◌≡◌, ◌∙◌, ℕ, List, Option, Some, Result, Ok, inl, inr, sym, ap, subst}
+use Rattle.std.proofs.Common.{◌≡◌, ◌∙◌, ℕ, List, Option, Some, Result, Ok, inl, inr, sym, subst}
 use Rattle.rip_outside.specs.Files.{Files}
 use Rattle.rip_outside.specs.Outputs.{MayStand, after_outputs}
-use Rattle.rip_outside.specs.Crashes.{Crashes, IsSettled, Outlook, StoresWhole, TellsHeld}
+use Rattle.rip_outside.specs.Crashes.{Outlook, StoresWhole, TellsHeld}
 use Rattle.rip_outside.proofs.CrashLaws.{foretold_held}
 use Rattle.rip_outside.proofs.FilesLaws.{if_told}
 use Rattle.rip_outside.proofs.OutputLaws.{none_stand}
@@ -38,16 +38,16 @@ stands_by : (from to : List ℕ) (files left : Files) → CrashLeaves (IsMergeOu
 stands_by from to files left (inl same) = subst (MayStand (merge_outputs from to files) files) (sym same) (none_stand (merge_outputs from to files) files)
 stands_by from to files left (inr put) = subst (λ (w : Outcome). MayStand w.outputs files left) put.1 put.2
 
-pub survives_by : (read : Result Command ℕ) (status : Status) (h0 h1 : Option Files) (b a : Outlook) → TellsHeld h0 b → TellsHeld h1 a → CrashSafe (IsOutcomeOf read) (status ≡ Done) b a
+pub survives_by : (read : Result Command ℕ) (status : Status) (h0 h1 : Option Files) (b a : Outlook) → TellsHeld h0 b → TellsHeld h1 a → CrashSafe (IsOutcomeOf read) (IsAnswered status) b a
     → ((from to : List ℕ) (files : Files) → read ≡ Ok (MergeStores from to) → status ≡ Done → h0 ≡ Some files → (now : Files) × (h1 ≡ Some now) × HoldsBoth from to files now) → MergeSurvives read status b a
 survives_by read status h0 h1 b a t0 t1 safe holds from to is =
-    foretold_held (StoresWhole (λ old left. CrashLeaves (IsOutcomeOf read old) old left) (status ≡ Done)) (MergeIsSafe from to status) h0 h1 b a t0 t1 safe
+    foretold_held (StoresWhole (λ old left. CrashLeaves (IsOutcomeOf read old) old left) (IsAnswered status)) (MergeIsSafe from to status) h0 h1 b a t0 t1 safe
     (λ old new told0 told1 stores. record {
       moments = λ settled left since. stands_by from to old.files left (subst (λ (r : Result Command ℕ). CrashLeaves (IsOutcomeOf r old.files) old.files left) is (stores.moments settled left since));
       done = λ settled ended left now.
           let found = holds from to old.files is ended told0 in
           let clash : Some found.0 ≡ Some new.files = sym found.1 ∙ told1 in
           let files : found.0 ≡ new.files = cc in
-          let same : left ≡ new.files = settled_leaves new (stores.settled settled ended) left now in
+          let same : left ≡ new.files = settled_leaves new (stores.settled settled (subst IsAnswered (sym ended) tt)) left now in
           subst (HoldsBoth from to old.files) (files ∙ sym same) found.2;
     })

@@ -32,7 +32,7 @@ one_wanting (Ok (One command)) before outlook = ran_wanting (Ok command) before 
 one_wanting (Ok (Batch list)) before outlook = tt
 one_wanting (Err word) before outlook = ran_wanting (Err word) before outlook
 
-pub batch_wanting : (asked : Result Request ℕ) (before : Seen) → OfBatch asked (λ list. BatchRan list before before WantOfMemory)
-batch_wanting (Ok (One command)) before = tt
-batch_wanting (Ok (Batch list)) before = inl (none_for_want list before)
-batch_wanting (Err word) before = tt
+pub batch_wanting : (asked : Result Request ℕ) (before : Seen) (outlook : Outlook) → OfBatch asked (λ list. BatchRan list before before outlook outlook WantOfMemory)
+batch_wanting (Ok (One command)) before outlook = tt
+batch_wanting (Ok (Batch list)) before outlook = inl (none_for_want list before outlook)
+batch_wanting (Err word) before outlook = tt

@@ -4,8 +4,8 @@ use Rattle.std.specs.FinMap.{get}
 use Rattle.rip_outside.specs.Files.{Files}
 use Rattle.rip_outside.specs.Outputs.{part_of}
 use Rattle.rip_outside.specs.Causes.{Rose}
-use Rattle.rip_commands.specs.Seen.{Seen}
-use Rattle.rip_outside.specs.declared.fault.ShelfCall.{ShelfCall}
+use Rattle.rip_commands.specs.Ran.{NoneRose}
+use Rattle.rip_commands.specs.Seen.{Seen, look_of}
 use Rattle.column_map.specs.Columns.{IsOffset, WordTable, per_column, place, rip_word, stride, table_of_image}
 use Rattle.column_map.specs.Image.{IsImage}
 use Rattle.column_map.specs.Mending.{IsMended}
@@ -28,7 +28,7 @@ use Rattle.rip_commands.specs.Printing.{Wrote}
 
 -- no call failed
 abbrev pub NoneFailed : Seen → Seen → Type 0
-NoneFailed before after = ((call : ShelfCall) → Rose (before.faults call) (after.faults call) → ⊥) × (Rose before.sink_faults after.sink_faults → ⊥)
+NoneFailed before after = NoneRose (look_of before) (look_of after) × (Rose before.sink_faults after.sink_faults → ⊥)
 
 -- What `repair` leaves when it is done: the rip agrees with the record at the offset d by a table of words, and that is the only one; the
 -- output holds the header and the rip's words, where columns have words the table's; these have the record's seal, if it has one; the

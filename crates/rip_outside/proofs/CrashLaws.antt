@@ -91,6 +91,16 @@ foretold_twice R S Q (Foretold a) Untold o2 r s step = absurd r
 foretold_twice R S Q (Foretold a) (Foretold b) Untold r s step = s
 foretold_twice R S Q (Foretold a) (Foretold b) (Foretold c) r s step = step a b c r s
 
+-- three moments of a shelf, with what it holds
+pub foretold_thrice : (R S Q : Crashes → Crashes → Type 0) (h0 h1 h2 : Option Files) (o0 o1 o2 : Outlook) → TellsHeld h0 o0 → TellsHeld h1 o1 → TellsHeld h2 o2 → WhereForetold R o0 o1 → WhereForetold S o1 o2
+    → ((a b c : Crashes) → h0 ≡ Some a.files → h1 ≡ Some b.files → h2 ≡ Some c.files → R a b → S b c → Q a c) → WhereForetold Q o0 o2
+foretold_thrice R S Q h0 h1 h2 Untold Untold Untold t0 t1 t2 r s step = tt
+foretold_thrice R S Q h0 h1 h2 Untold Untold (Foretold c) t0 t1 t2 r s step = s
+foretold_thrice R S Q h0 h1 h2 Untold (Foretold b) o2 t0 t1 t2 r s step = absurd r
+foretold_thrice R S Q h0 h1 h2 (Foretold a) Untold o2 t0 t1 t2 r s step = absurd r
+foretold_thrice R S Q h0 h1 h2 (Foretold a) (Foretold b) Untold t0 t1 t2 r s step = s
+foretold_thrice R S Q h0 h1 h2 (Foretold a) (Foretold b) (Foretold c) t0 t1 t2 r s step = step a b c t0 t1 t2 r s
+
 -- the files of two that are told stand as what is held does
 pub held_files : (R : Files → Files → Type 0) (h0 h1 : Option Files) (a b : Crashes) → h0 ≡ Some a.files → h1 ≡ Some b.files → WhereTold R h0 h1 → R a.files b.files
 held_files R h0 h1 a b is0 is1 told =

@@ -1,11 +1,11 @@
 -- Laws of the names that stand in a folder.
-use Rattle.std.proofs.Common.{◌≡◌, ◌≢◌, ◌∙◌, ℕ, zero, suc, ◌<◌, List, [], ◌∷◌, length, map, Option, None, Some, Bool, true, false, refl, sym, ap, subst, arith, T}
-use Rattle.std.specs.Prelude.{All, AllPairs, IsSome, is_some, ◌&&◌, slice_index_or, filter}
+use Rattle.std.proofs.Common.{◌≡◌, ◌≢◌, ◌∙◌, ℕ, zero, suc, List, [], ◌∷◌, map, Bool, true, false, subst, arith, T}
+use Rattle.std.specs.Prelude.{All, AllPairs, ◌&&◌, slice_index_or}
 use Rattle.std.specs.Ordering.{nat_cmp, is_eq, is_lt}
 use Rattle.std.specs.declared.cmp.Ordering.{Ordering}
 use Rattle.std.specs.declared.cmp.Ordering.TheVariants.{Less, Equal, Greater}
 use Rattle.std.specs.Cmp.Lexicographic.{slice_cmp}
-use Rattle.std.specs.FinMap.{contains_key-keys, entries, entries_sorted, get, keys}
+use Rattle.std.specs.FinMap.{contains_key-keys, entries, entries_sorted, keys}
 use Rattle.std.specs.FinMap.Entries.{below_all, is_sorted}
 use Rattle.std.proofs.lemmas.List.Elements.{All-cons, All-filter, All-nil}
 use Rattle.std.proofs.lemmas.List.Folds.{list_any_at}

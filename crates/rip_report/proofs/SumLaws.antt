@@ -1,8 +1,6 @@
 -- Texts of several parts, and the lines of tracks.
-use Rattle.std.proofs.Common.{◌≡◌, ℕ, suc, ◌+◌, ◌-◌, ◌^◌, ◌<◌, false, List, [], ◌∷◌, ◌++◌, length, take, get_or, ap, sym, ◌∙◌, arith, append_assoc, append-nil, Option, Some, IfSome}
-use Rattle.std.specs.Fmt.{◌++?◌, char_count, digits, format_spec, padded_integral}
-use Rattle.std.specs.Option.{option_map}
-use Rattle.std.proofs.Math.Nat.{sub-zero}
+use Rattle.std.proofs.Common.{◌≡◌, ℕ, suc, ◌+◌, ◌<◌, List, [], ◌∷◌, ◌++◌, length, take, get_or, ap, sym, ◌∙◌, arith, append_assoc, append-nil, Option, Some, IfSome}
+use Rattle.std.specs.Fmt.{◌++?◌}
 use Rattle.std.proofs.lemmas.List.{take_more, length-take}
 use Rattle.accurip_sums.specs.declared.pair.Sums.{Sums}
 use Rattle.rip_report.specs.Sums.{track_line, track_lines}

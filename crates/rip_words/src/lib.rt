@@ -591,9 +591,10 @@ fn read_verb(alloc: Global, verb: Option<Verb>, words: &[String]) -> Result<Comm
 }
 
 /// The command that the words are: any but `batch`, which no list may hold. `Usage` comes exactly where the grammar refuses,
-/// with the index of the first word that breaks a rule, or the number of words where one is missing. An offset that was read is from -5,879 to 5,879,
-/// and so is the shift of a trial; its sectors are from 30 to 9,000, and its hits at most 58,800. The folder of `split` ends
-/// in `/`, as those of `list`, `check` and `merge` do, and the name of `join`'s file may stand in a sheet.
+/// with the index of the first word that breaks a rule, or the number of words where one is missing. An offset that was read
+/// is from -5,879 to 5,879, and so is the shift of a trial; its sectors are from 30 to 9,000, and its hits at most 58,800.
+/// The folder of `split` ends in `/`, as those of `list`, `check` and `merge` do, and the name of `join`'s file may stand in
+/// a sheet.
 pub fn read_command(alloc: Global, words: &[String]) -> Result<Command, WordsFail>
     ensures value { ReadsWords result (command_reading (texts words.now)) }
     ensures offsets { IfOk result (λ read. IfSome (offset_in read) IsOffset) }

@@ -1,6 +1,6 @@
 -- Laws of entries that are read into a buffer.
-use Rattle.std.proofs.Common.{◌≡◌, ◌∙◌, ℕ, ◌≤◌, min, List, [], length, take, Option, None, Some, Bool, true, false, refl, sym, ap, subst, arith}
-use Rattle.std.specs.Prelude.{IsSomeAnd, unwrap_or, ◌++◌}
+use Rattle.std.proofs.Common.{◌≡◌, ◌∙◌, ℕ, ◌≤◌, min, List, [], length, take, Option, None, Some, Bool, true, false, refl, sym, ap}
+use Rattle.std.specs.Prelude.{unwrap_or, ◌++◌}
 use Rattle.std.proofs.Math.Seq.{take-append_seam}
 use Rattle.parity_store.proofs.FindingLaws.{Front, some_and}
 use Rattle.parity_store.specs.Reading.{after_checks, body_refusal, head_refusal, most_bytes}

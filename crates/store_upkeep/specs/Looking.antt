@@ -8,7 +8,7 @@ use Rattle.store_upkeep.specs.Entries.{EntryState, Good as GoodState, Bad as Bad
 use Rattle.store_upkeep.specs.declared.looking.Seen.{Seen}
 use Rattle.store_upkeep.specs.declared.looking.Seen.TheVariants.{Good, Bad, Misnamed}
 use Rattle.store_upkeep.specs.declared.looking.LookFail.{LookFail}
-use Rattle.store_upkeep.specs.declared.looking.LookFail.TheVariants.{ReadFault, Oom}
+use Rattle.store_upkeep.specs.declared.looking.LookFail.TheVariants.{ReadFault}
 
 -- what was seen
 abbrev pub state_seen : Seen → EntryState

@@ -1,4 +1,4 @@
-use Rattle.std.proofs.Common.{◌≡◌, ◌∙◌, ◌*◌, ◌≤◌, List, ℕ, Ok, Some, refl, sym, rules, arith, get_or}
+use Rattle.std.proofs.Common.{◌≡◌, ◌∙◌, ◌*◌, List, ℕ, Ok, Some, refl, sym, rules, arith, get_or}
 use Rattle.rip_outside.specs.Files.{Files}
 use Rattle.rip_outside.proofs.CrashLaws.{told_rests_twice}
 use Rattle.rip_outside.proofs.FilesLaws.{if_told}

@@ -1,9 +1,7 @@
-use Rattle.std.proofs.Common.{◌≡◌, ◌≢◌, ◌∙◌, ◌+◌, ◌≤◌, List, ℕ, [], ◌∷◌, length, map, refl, sym, ap, ap₂, subst, rules, arith}
+use Rattle.std.proofs.Common.{◌≡◌, ◌≢◌, ◌∙◌, List, ℕ, [], ◌∷◌, length, sym, ap, ap₂, subst, rules}
 use Rattle.std.specs.Prelude.{All, AllPairs, Contains}
 use Rattle.std.proofs.lemmas.List.Elements.{All-cons, All-nil}
-use Rattle.rip_outside.specs.Files.{Files}
-use Rattle.rip_outside.specs.Outputs.{Output}
-use Rattle.rip_outside.proofs.FilesLaws.{if_told, if_told_both, when_told}
+use Rattle.rip_outside.proofs.FilesLaws.{if_told, when_told}
 use Rattle.disc_toc.specs.Toc.{toc_of}
 use Rattle.image_mender.specs.declared.image.Part.{Part}
 use Rattle.image_mender.specs.Joined.{AreInFiles, joined_words}

@@ -1,18 +1,16 @@
-use Rattle.std.proofs.Common.{◌≡◌, ◌∙◌, ◌+◌, ◌*◌, ◌≤◌, ℕ, List, length, Result, Ok, Some, ap, arith, refl, rules, sym}
-use Rattle.std.specs.Prelude.{IfSome}
+use Rattle.std.proofs.Common.{◌≡◌, ◌∙◌, ◌*◌, ◌≤◌, ℕ, List, length, Result, Ok, Some, arith, refl, rules, sym}
 use Rattle.std.proofs.lemmas.Result.{err_from_is_err_and}
 use Rattle.rip_outside.specs.Files.{Files, bytes_at}
 use Rattle.rip_outside.proofs.FilesLaws.{if_told, when_told}
 use Rattle.disc_toc.specs.Toc.{toc_of}
 use Rattle.accurip_match.specs.Matching.{AreMatches}
 use Rattle.accurip_match.specs.Name.{response_name}
-use Rattle.accurip_match.specs.declared.block.Block.{Block}
 use Rattle.accurip_match.proofs.ResponseLaws.{blocks_room}
 use Rattle.image_mender.specs.Joined.{joined_words, word_count}
 use Rattle.rip_inputs.specs.Opening.{Opened, lengths_of, names_read}
 use Rattle.rip_inputs.specs.Telling.{opened_of}
 use Rattle.rip_report.specs.Matches.{matches_text}
-use Rattle.engine_steps.specs.Steps.{Does, Meets, Takes, opened}
+use Rattle.engine_steps.specs.Steps.{opened}
 use Rattle.rip_report.specs.declared.status.Status.TheVariants.{Done}
 use Rattle.engine_steps.specs.Outcome.{Outcome, Then, ThenOf, answered}
 use Rattle.engine_steps.specs.declared.steps.Answer.{Answer}

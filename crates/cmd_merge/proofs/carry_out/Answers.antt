@@ -1,5 +1,4 @@
-use Rattle.std.proofs.Common.{◌≡◌, ◌∙◌, ◌+◌, ◌≤◌, List, ℕ, Some, ap, arith}
-use Rattle.rip_outside.specs.Files.{Files}
+use Rattle.std.proofs.Common.{◌≡◌, ◌∙◌, List, ℕ, ap, arith}
 use Rattle.rip_outside.proofs.FilesLaws.{if_told, when_told}
 use Rattle.rip_inputs.specs.Opening.{lengths_of}
 use Rattle.store_upkeep.specs.Entries.{entries_in}

@@ -1,12 +1,12 @@
-use Rattle.std.proofs.Common.{◌≡◌, ◌∙◌, ap, ◌+◌, ◌*◌, ◌≤◌, ℕ, List, [], ◌∷◌, Ok, Some, false, arith, refl, rules, sym}
+use Rattle.std.proofs.Common.{◌≡◌, ◌∙◌, ap, ◌*◌, ◌≤◌, [], ◌∷◌, Ok, Some, false, arith, rules, sym}
 use Rattle.std.specs.List.{list_any}
 use Rattle.std.specs.Str.{bytes_eq}
-use Rattle.rip_outside.proofs.FilesLaws.{if_told, if_told_weaker, when_told}
+use Rattle.rip_outside.proofs.FilesLaws.{if_told_weaker, when_told}
 use Rattle.column_map.specs.Columns.{per_column}
 use Rattle.image_mender.specs.Joined.{AreInFiles, word_count, joined_words}
 use Rattle.image_mender.proofs.JoinLaws.{length-joined_words}
 use Rattle.rip_outside.specs.Outputs.{part_of}
-use Rattle.engine_steps.specs.Comparing.{both_of, known_of, names_of, compared_names}
+use Rattle.engine_steps.specs.Comparing.{both_of, known_of, names_of}
 use Rattle.engine_steps.specs.Steps.{compared, free}
 use Rattle.engine_search.specs.Picking.{Picks, Mends}
 use Rattle.cmd_repair.specs.RepairOutcome.{IsWrittenOutcome, answer_told, IsRepairOutcome}
@@ -18,7 +18,6 @@ use Rattle.engine_steps.proofs.Leaving.{free_told, stopped, went_on, went_on_of}
 use Rattle.std.proofs.lemmas.Result.{err_from_is_err_and}
 use Rattle.std.proofs.lemmas.List.Elements.{Contains-append_left}
 use Rattle.rip_outside.specs.Files.{Files}
-use Rattle.rip_inputs.specs.Opening.{lengths_of}
 use Rattle.engine_steps.proofs.TakingLaws.{found_told}
 use Rattle.engine_search.proofs.SealingLaws.{compare_stopped, compare_went, compared_bytes, compared_image, compared_sealing, sealed_more, sealed_stopped}
 use Rattle.rip_outside.proofs.CrashLaws.{told_rests_twice}

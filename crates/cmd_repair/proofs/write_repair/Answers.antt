@@ -3,6 +3,7 @@ use Rattle.rip_outside.specs.Files.{Files, LeavesName}
 use Rattle.rip_outside.specs.declared.fault.ShelfCall.TheVariants.{Rename}
 use Rattle.rip_outside.proofs.FilesLaws.{told_weaker}
 use Rattle.wav_frames.specs.Wav.{wav_bytes}
+use Rattle.column_map.specs.declared.candidate.Candidate.{Candidate}
 use Rattle.image_mender.specs.Joined.{joined_words}
 use Rattle.image_mender.specs.Patched.{patched}
 use Rattle.image_mender.specs.declared.mending.MendFail.TheVariants.{WriteFault}
@@ -12,7 +13,7 @@ use Rattle.rip_report.specs.declared.status.Status.TheVariants.{Done}
 use Rattle.engine_steps.specs.declared.steps.Stop.TheVariants.{WriteFault as WriteStop}
 use Rattle.engine_steps.proofs.Leaving.{leaves_name, put_done, put_stopped, stop_mends}
 use Rattle.std.specs.Prelude.{IsOk}
-use Rattle.engine_steps.proofs.CrashingLaws.{safe_put}
+use Rattle.engine_steps.proofs.CrashingLaws.{mend_ends_none, safe_put}
 use Rattle.cmd_repair.proofs.write_repair.Goals as goal
 
 pub returns-in-Ok-clause-leaves : goal.returns-in-Ok-clause-leaves
@@ -40,4 +41,4 @@ returns-in-Ok-clause-crashes g c =
 pub returns-clause-crashes : goal.returns-clause-crashes
 returns-clause-crashes g c =
     let make : Files → List ℕ = λ files. wav_bytes (patched c.args.picked.now.fixes.items (joined_words c.args.image.now files)) in
-    safe_put c.args.part.now c.args.to.now (written_text c.args.picked.now.at c.args.to.now) make _ _ _ _ c.requires.part (λ well. absurd (search rules)) (rw c.deref.ensures.value at c.write_mended.ensures.crashes)
+    safe_put c.args.part.now c.args.to.now (written_text c.args.picked.now.at c.args.to.now) make _ _ _ _ c.requires.part (λ ends. absurd (mend_ends_none {T = Candidate × List ℕ} c.in-Err.fail (Err c.mend_stop.result) (ap Err c.mend_stop.ensures) ends)) (rw c.deref.ensures.value at c.write_mended.ensures.crashes)

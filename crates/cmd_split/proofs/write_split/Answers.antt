@@ -1,11 +1,9 @@
-use Rattle.std.proofs.Common.{◌≡◌, ◌≢◌, ◌∙◌, ◌+◌, ◌≤◌, List, ℕ, length, map, sym, ap, ap₂, subst, rules, arith}
+use Rattle.std.proofs.Common.{◌≡◌, ◌≢◌, ◌∙◌, ◌+◌, List, ℕ, length, map, sym, ap, ap₂, subst, rules}
 use Rattle.std.specs.Prelude.{All, AllPairs, Contains}
-use Rattle.rip_outside.specs.Files.{Files}
-use Rattle.rip_outside.specs.Outputs.{Output}
-use Rattle.rip_outside.proofs.FilesLaws.{if_told, if_told_both, when_told}
+use Rattle.rip_outside.proofs.FilesLaws.{if_told, when_told}
 use Rattle.disc_toc.specs.Toc.{toc_of}
 use Rattle.image_mender.specs.declared.image.Part.{Part}
-use Rattle.image_mender.specs.Joined.{AreInFiles, joined_words}
+use Rattle.image_mender.specs.Joined.{joined_words}
 use Rattle.track_split.specs.Sheets.{split_text}
 use Rattle.track_split.specs.Tracks.{files_named, split_names, split_outputs}
 use Rattle.rip_report.specs.Texts.{split_line}

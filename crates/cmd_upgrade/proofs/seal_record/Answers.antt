@@ -1,6 +1,5 @@
-use Rattle.std.proofs.Common.{◌≡◌, ◌∙◌, ℕ, List, [], ◌∷◌, false, None, Some, rules, sym, of_z, to_z, w32}
-use Rattle.std.specs.Prelude.{◌==◌, IfSome, IfOk}
-use Rattle.rip_outside.specs.Files.{Files}
+use Rattle.std.proofs.Common.{◌≡◌, ◌∙◌, [], ◌∷◌, None, Some, rules, sym, of_z, to_z, w32}
+use Rattle.std.specs.Prelude.{IfSome}
 use Rattle.rip_outside.proofs.FilesLaws.{if_told, when_told}
 use Rattle.column_map.specs.Columns.{WordTable, per_column}
 use Rattle.column_map.specs.Mending.{AreFixes}
@@ -9,8 +8,8 @@ use Rattle.image_mender.specs.Joined.{joined_words}
 use Rattle.image_mender.specs.Seal.{seal_of_table}
 use Rattle.parity_store.specs.Record.{parity_count, parity_rows, record_bytes_of}
 use Rattle.rip_report.specs.Texts.{upgraded_text}
-use Rattle.engine_steps.specs.Outcome.{Leaves, Outcome, output, written}
-use Rattle.engine_steps.specs.Steps.{Known, known_from}
+use Rattle.engine_steps.specs.Outcome.{output, written}
+use Rattle.engine_steps.specs.Steps.{known_from}
 use Rattle.engine_steps.proofs.CrashingLaws.{safe_after, safe_none, safe_rests, safe_weaker}
 use Rattle.engine_steps.proofs.Leaving.{leaves_weaker}
 use Rattle.engine_search.proofs.PickLaws.{offset_kept}

@@ -1,9 +1,9 @@
-use Rattle.std.proofs.Common.{◌≡◌, ◌∙◌, ◌*◌, ap, ℕ, List, [], ◌∷◌, Ok, None, Some, IfSome, refl, rules, subst, sym, ℤ}
+use Rattle.std.proofs.Common.{◌≡◌, ◌∙◌, ◌*◌, ℕ, List, Ok, None, Some, IfSome, rules, subst, sym}
 use Rattle.std.specs.Prelude.{Option}
 use Rattle.std.specs.List.{list_any}
 use Rattle.std.specs.Str.{bytes_eq}
 use Rattle.std.proofs.lemmas.Result.{err_from_is_err_and}
-use Rattle.rip_outside.specs.Files.{Files, IsHeld}
+use Rattle.rip_outside.specs.Files.{Files}
 use Rattle.rip_outside.specs.Outputs.{part_of}
 use Rattle.rip_outside.proofs.CrashLaws.{told_rests_twice}
 use Rattle.rip_outside.proofs.FilesLaws.{if_told, when_told}
@@ -13,7 +13,7 @@ use Rattle.parity_store.specs.Naming.{record_name_of}
 use Rattle.parity_store.specs.Record.{parity_count, parity_rows}
 use Rattle.engine_steps.specs.Comparing.{both_of, known_of, names_of}
 use Rattle.engine_steps.specs.declared.comparing.Compared.{Compared}
-use Rattle.engine_steps.specs.Outcome.{Leaves, Outcome, Then, ThenOf}
+use Rattle.engine_steps.specs.Outcome.{Leaves, Outcome, ThenOf}
 use Rattle.engine_steps.specs.Steps.{Does, Known, Meets, compared, known_from}
 use Rattle.engine_steps.proofs.CrashingLaws.{safe_after, safe_rests, safe_weaker}
 use Rattle.engine_steps.proofs.Leaving.{reads_nothing, stopped, stopped_of, went_on, went_on_of}
@@ -22,7 +22,7 @@ use Rattle.engine_search.specs.Agreement.{TakesSealing}
 use Rattle.engine_search.specs.Picking.{Picks}
 use Rattle.engine_search.specs.declared.picking.Picked.{Picked}
 use Rattle.engine_search.proofs.SealingLaws.{compared_bytes, compared_image, compared_sealing}
-use Rattle.cmd_upgrade.specs.UpgradeOutcome.{IsSealedOutcome, IsUpgradeOf, IsUpgradeOutcome, upgradable}
+use Rattle.cmd_upgrade.specs.UpgradeOutcome.{IsSealedOutcome, IsUpgradeOutcome, upgradable}
 use Rattle.cmd_upgrade.proofs.UpgradeLaws.{ComparedTo, record_held, upgrade_done, upgrade_left, upgrade_more, upgrade_of_left, upgrade_so_far, upgrade_stopped}
 use Rattle.cmd_upgrade.proofs.upgrade.Goals as goal
 

@@ -1,15 +1,15 @@
-use Rattle.std.proofs.Common.{Ok}
-use Rattle.rip_commands.specs.Seen.{Seen, seen}
+use Rattle.rip_commands.specs.Seen.{seen}
 use Rattle.rip_words.specs.Command.{request_reading, texts}
 use Rattle.rip_outside.proofs.FilesLaws.{when_told}
 use Rattle.engine_steps.proofs.CrashingLaws.{safe_when}
 use Rattle.cmd_batch.proofs.EndLaws.{decides as batch_decides, own_faults, takes as batch_takes, to_the_end}
+use Rattle.cmd_batch.proofs.StopLaws.{survives as batch_survives}
 use Rattle.rip_engine.proofs.AgainLaws.{read_again}
 use Rattle.rip_engine.proofs.MergeLaws.{merges_by, survives_by}
 use Rattle.rip_engine.proofs.RequestLaws.{of_batch, of_command}
 use Rattle.rip_engine.proofs.StoredLaws.{stored_by}
 use Rattle.rip_engine.proofs.Headline.{finds_damaged_of, repairs_of}
-use Rattle.rip_engine.proofs.Ending.{decides, decides_without_files, read_has_cause, write_has_cause, sink_has_cause, memory_keeps, nothing_written, takes, trial_leaves, completes, done_told}
+use Rattle.rip_engine.proofs.Ending.{decides, decides_without_files, read_has_cause, write_has_cause, sink_has_cause, memory_keeps, nothing_written, takes, trial_leaves, completes, answer_told, done_told}
 use Rattle.rip_engine.proofs.run.Goals as goal
 
 pub returns-clause-outcome : goal.returns-clause-outcome
@@ -58,24 +58,30 @@ pub returns-clause-trial_leaves_files : goal.returns-clause-trial_leaves_files
 returns-clause-trial_leaves_files g c = of_command (request_reading (texts c.args.words.now)) _ _ (λ read ran. trial_leaves read (seen g.F.Shelf g.K.Sink c.args.files.now c.args.out.now) (seen g.F.Shelf g.K.Sink c.run_request.new.files c.run_request.new.out) ran.0 c.run_request.result ran.1.ran ran.2) c.run_request.ensures.one
 
 pub returns-clause-survives : goal.returns-clause-survives
-returns-clause-survives g c = of_command (request_reading (texts c.args.words.now)) _ _ (λ read ran. safe_when _ _ _ _ _ (λ is. done_told ran.0 _ _ _ _ c.run_request.result ran.2 is) ran.1.crashes) c.run_request.ensures.one
+returns-clause-survives g c = of_command (request_reading (texts c.args.words.now)) _ _ (λ read ran. safe_when _ _ _ _ _ (λ is. answer_told ran.0 _ _ _ _ c.run_request.result ran.2 is) ran.1.crashes) c.run_request.ensures.one
 
 pub returns-clause-merge_survives : goal.returns-clause-merge_survives
 returns-clause-merge_survives g c = of_command (request_reading (texts c.args.words.now)) _ _ (λ read ran.
     let tells = g.met.F.Shelf.tells_held in
     let merged = merges_by read (seen g.F.Shelf g.K.Sink c.args.files.now c.args.out.now) (seen g.F.Shelf g.K.Sink c.run_request.new.files c.run_request.new.out) c.run_request.result (decides read (seen g.F.Shelf g.K.Sink c.args.files.now c.args.out.now) (seen g.F.Shelf g.K.Sink c.run_request.new.files c.run_request.new.out) ran.0 c.run_request.result ran.1.ran ran.2) in
     survives_by read c.run_request.result (g.F.Shelf.held c.args.files.now) (g.F.Shelf.held c.run_request.new.files) (g.F.Shelf.crashes c.args.files.now) (g.F.Shelf.crashes c.run_request.new.files)
-    (tells c.args.files.now) (tells c.run_request.new.files) (safe_when _ _ _ _ _ (λ is. done_told ran.0 _ _ _ _ c.run_request.result ran.2 is) ran.1.crashes)
+    (tells c.args.files.now) (tells c.run_request.new.files) (safe_when _ _ _ _ _ (λ is. answer_told ran.0 _ _ _ _ c.run_request.result ran.2 is) ran.1.crashes)
     (λ from to files is ended told. let held = when_told (g.F.Shelf.held c.args.files.now) _ (merged from to is ended) files told in (held.0, held.1, held.2))) c.run_request.ensures.one
 
 pub returns-clause-batch_outcome : goal.returns-clause-batch_outcome
-returns-clause-batch_outcome g c = of_batch (request_reading (texts c.args.words.now)) _ _ (λ list ran. batch_decides list (seen g.F.Shelf g.K.Sink c.args.files.now c.args.out.now) (seen g.F.Shelf g.K.Sink c.run_request.new.files c.run_request.new.out) c.run_request.result ran) c.run_request.ensures.batch
+returns-clause-batch_outcome g c = of_batch (request_reading (texts c.args.words.now)) _ _ (λ list ran. batch_decides list (seen g.F.Shelf g.K.Sink c.args.files.now c.args.out.now) (seen g.F.Shelf g.K.Sink c.run_request.new.files c.run_request.new.out) (g.F.Shelf.crashes c.args.files.now) (g.F.Shelf.crashes c.run_request.new.files) c.run_request.result ran) c.run_request.ensures.batch
 
 pub returns-clause-batch_own_faults : goal.returns-clause-batch_own_faults
-returns-clause-batch_own_faults g c = of_batch (request_reading (texts c.args.words.now)) _ _ (λ list ran. own_faults list (seen g.F.Shelf g.K.Sink c.args.files.now c.args.out.now) (seen g.F.Shelf g.K.Sink c.run_request.new.files c.run_request.new.out) c.run_request.result ran) c.run_request.ensures.batch
+returns-clause-batch_own_faults g c = of_batch (request_reading (texts c.args.words.now)) _ _ (λ list ran. own_faults list (seen g.F.Shelf g.K.Sink c.args.files.now c.args.out.now) (seen g.F.Shelf g.K.Sink c.run_request.new.files c.run_request.new.out) (g.F.Shelf.crashes c.args.files.now) (g.F.Shelf.crashes c.run_request.new.files) c.run_request.result ran) c.run_request.ensures.batch
 
 pub returns-clause-batch_to_the_end : goal.returns-clause-batch_to_the_end
-returns-clause-batch_to_the_end g c = of_batch (request_reading (texts c.args.words.now)) _ _ (λ list ran. to_the_end list (seen g.F.Shelf g.K.Sink c.args.files.now c.args.out.now) (seen g.F.Shelf g.K.Sink c.run_request.new.files c.run_request.new.out) c.run_request.result ran) c.run_request.ensures.batch
+returns-clause-batch_to_the_end g c = of_batch (request_reading (texts c.args.words.now)) _ _ (λ list ran. to_the_end list (seen g.F.Shelf g.K.Sink c.args.files.now c.args.out.now) (seen g.F.Shelf g.K.Sink c.run_request.new.files c.run_request.new.out) (g.F.Shelf.crashes c.args.files.now) (g.F.Shelf.crashes c.run_request.new.files) c.run_request.result ran) c.run_request.ensures.batch
 
 pub returns-clause-batch_bytes_taken : goal.returns-clause-batch_bytes_taken
-returns-clause-batch_bytes_taken g c = of_batch (request_reading (texts c.args.words.now)) _ _ (λ list ran. batch_takes list (seen g.F.Shelf g.K.Sink c.args.files.now c.args.out.now) (seen g.F.Shelf g.K.Sink c.run_request.new.files c.run_request.new.out) c.run_request.result ran) c.run_request.ensures.batch
+returns-clause-batch_bytes_taken g c = of_batch (request_reading (texts c.args.words.now)) _ _ (λ list ran. batch_takes list (seen g.F.Shelf g.K.Sink c.args.files.now c.args.out.now) (seen g.F.Shelf g.K.Sink c.run_request.new.files c.run_request.new.out) (g.F.Shelf.crashes c.args.files.now) (g.F.Shelf.crashes c.run_request.new.files) c.run_request.result ran) c.run_request.ensures.batch
+
+pub returns-clause-batch_survives : goal.returns-clause-batch_survives
+returns-clause-batch_survives g c =
+    let tells = g.met.F.Shelf.tells_held in
+    of_batch (request_reading (texts c.args.words.now)) _ _ (λ list ran. batch_survives list (seen g.F.Shelf g.K.Sink c.args.files.now c.args.out.now) (seen g.F.Shelf g.K.Sink c.run_request.new.files c.run_request.new.out) (g.F.Shelf.crashes c.args.files.now) (g.F.Shelf.crashes c.run_request.new.files) c.run_request.result
+    (tells c.args.files.now) (tells c.run_request.new.files) ran) c.run_request.ensures.batch

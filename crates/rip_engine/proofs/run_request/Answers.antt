@@ -7,4 +7,4 @@ pub returns-in-Err-Oom-clause-one : goal.returns-in-Err-Oom-clause-one
 returns-in-Err-Oom-clause-one g c = one_wanting (request_reading (texts c.args.words.now)) (seen g.F.Shelf g.K.Sink c.args.files.now c.args.out.now) (g.F.Shelf.crashes c.args.files.now)
 
 pub returns-in-Err-Oom-clause-batch : goal.returns-in-Err-Oom-clause-batch
-returns-in-Err-Oom-clause-batch g c = batch_wanting (request_reading (texts c.args.words.now)) (seen g.F.Shelf g.K.Sink c.args.files.now c.args.out.now)
+returns-in-Err-Oom-clause-batch g c = batch_wanting (request_reading (texts c.args.words.now)) (seen g.F.Shelf g.K.Sink c.args.files.now c.args.out.now) (g.F.Shelf.crashes c.args.files.now)

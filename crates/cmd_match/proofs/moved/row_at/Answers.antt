@@ -7,7 +7,7 @@ use mir.Val.{of_z, to_z}
 use Rattle.std.proofs.lemmas.Result.{err_from_is_err_and}
 use Rattle.std.proofs.lemmas.List.FromFn.{map-range_with_len_more}
 use Rattle.rip_outside.specs.Files.{Files}
-use Rattle.rip_outside.proofs.FilesLaws.{if_told_both, if_told_weaker}
+use Rattle.rip_outside.proofs.FilesLaws.{if_told_both}
 use Rattle.accurip_sums.specs.declared.pair.Sums.{Sums}
 use Rattle.accurip_match.specs.Shifted.{shifted_sums}
 use Rattle.disc_toc.specs.Toc.{toc_of}

@@ -1,4 +1,4 @@
-use Rattle.std.proofs.Common.{◌≡◌, ◌∙◌, ◌*◌, ◌≤◌, ◌++◌, ℕ, List, length, take, ap, sym, rules, arith}
+use Rattle.std.proofs.Common.{◌≡◌, ◌*◌, ◌≤◌, ◌++◌, ℕ, List, length, take, rules, arith}
 use Rattle.std.proofs.lemmas.List.{length-take-le}
 use Rattle.rip_outside.specs.Files.{Files}
 use Rattle.rip_outside.proofs.FilesLaws.{if_told}

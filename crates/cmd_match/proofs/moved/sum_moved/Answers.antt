@@ -1,15 +1,13 @@
-use Rattle.std.proofs.Common.{◌≡◌, ◌∙◌, ◌+◌, ◌-◌, ◌*◌, ◌≤◌, ◌++◌, ◌==◌, [], ℕ, List, length, take, replicate, ap, ap₂, sym, subst, arith, rules}
+use Rattle.std.proofs.Common.{◌≡◌, ◌∙◌, ◌+◌, ◌*◌, ◌++◌, ◌==◌, [], ℕ, List, length, take, ap, ap₂, sym, arith}
 use Rattle.std.specs.Prelude.{ℤ, slice_range}
 use Rattle.std.proofs.lemmas.Int.{to_z-of_z}
 use mir.Syntax.{w32}
 use mir.Val.{of_z, to_z}
-use Rattle.rip_outside.specs.Files.{Files}
 use Rattle.rip_outside.proofs.FilesLaws.{if_told, when_told}
 use Rattle.disc_toc.specs.Toc.{toc_of}
-use Rattle.accurip_sums.specs.StandsFor.{TrackStandsFor}
 use Rattle.accurip_sums.specs.Track.{track_sums}
 use Rattle.image_mender.proofs.JoinLaws.{length-joined_words}
-use Rattle.image_mender.specs.Joined.{joined_words, word_count}
+use Rattle.image_mender.specs.Joined.{joined_words}
 use Rattle.engine_sums.specs.Tracks.{begin_of}
 use Rattle.engine_sums.proofs.BeginLaws.{begin_rises, begin_within}
 use Rattle.cmd_match.specs.Span.{moved_words, spanned_words}

@@ -1,9 +1,7 @@
-use Rattle.std.proofs.Common.{◌≡◌, ◌∙◌, Err, ◌+◌, ◌++◌, ◌∷◌, [], List, ℕ, ap, ap₂, arith, get_or, length, map, rules, sym, take, true}
+use Rattle.std.proofs.Common.{◌≡◌, ◌∙◌, Err, ◌+◌, ◌++◌, ◌∷◌, [], List, ap₂, get_or, length, map, rules, sym, take}
 use Rattle.std.proofs.lemmas.List.{get_or_read}
-use Rattle.std.proofs.lemmas.List.Elements.{All-get_or}
 use Rattle.std.proofs.lemmas.Result.{err_from_is_err_and}
-use Rattle.rip_outside.specs.Files.{Files, bytes_at}
-use Rattle.rip_outside.specs.Listing.{stands_in}
+use Rattle.rip_outside.specs.Files.{bytes_at}
 use Rattle.engine_steps.specs.declared.steps.Stop.TheVariants.{Oom as WantStop}
 use Rattle.rip_outside.proofs.FilesLaws.{if_told_both}
 use Rattle.rip_outside.proofs.ReadingLaws.{reads_twice}
@@ -12,7 +10,7 @@ use Rattle.engine_steps.proofs.TakingLaws.{more_so_far, takes_so_far, takes_stop
 use Rattle.cmd_merge.specs.MergeOutcome.{target}
 use Rattle.cmd_merge.specs.Planning.{planned}
 use Rattle.cmd_merge.specs.declared.planning.Planned.{Planned}
-use Rattle.cmd_merge.proofs.AddLaws.{both_next, both_targets, both_within, planned_more}
+use Rattle.cmd_merge.proofs.AddLaws.{both_next, both_within, planned_more}
 use Rattle.cmd_merge.proofs.planning.plan_merge.Goals as goal
 
 pub returns-in_err-entry-clause-only : goal.returns-in_err-entry-clause-only

@@ -1,4 +1,4 @@
-use Rattle.std.proofs.Common.{List, drop, length, nat_eq, refl}
+use Rattle.std.proofs.Common.{drop, length, nat_eq, refl}
 use Rattle.std.specs.List.{starts_with}
 use Rattle.std.proofs.lemmas.Bool.Decides.{Decides-eqb}
 use Rattle.std.proofs.lemmas.Slice.Eq.{starts_is}

@@ -1,6 +1,6 @@
-use Rattle.std.proofs.Common.{◌≡◌, ◌∙◌, ◌+◌, ◌<◌, ◌≤◌, List, ℕ, ap, arith, length, map, refl, rules, subst, sym, take, get_or, true, Err, None, Some}
-use Rattle.std.specs.Prelude.{IfErr, IsOk, is_some}
-use Rattle.std.specs.Option.{ForSome, option_map}
+use Rattle.std.proofs.Common.{◌≡◌, ◌∙◌, ◌+◌, ◌<◌, List, ℕ, ap, arith, length, refl, rules, subst, sym, take, get_or, true, Err, None, Some}
+use Rattle.std.specs.Prelude.{IfErr, IsOk}
+use Rattle.std.specs.Option.{option_map}
 use Rattle.std.specs.FinMap.{get}
 use Rattle.std.proofs.lemmas.List.{length-map}
 use Rattle.std.proofs.lemmas.Result.{err_from_is_err_and}
@@ -11,8 +11,8 @@ use Rattle.rip_inputs.specs.Opening.{lengths_of}
 use Rattle.store_upkeep.specs.Entries.{entry_state}
 use Rattle.store_upkeep.specs.Looking.{is_good}
 use Rattle.engine_outputs.specs.Writing.{RefusesNothing}
-use Rattle.engine_outputs.proofs.OneMoreLaws.{all_left, all_put, held_next, left_stopped, put_next, put_stopped}
-use Rattle.engine_steps.specs.Steps.{Takes}
+use Rattle.engine_outputs.proofs.OneMoreLaws.{all_left, all_put, held_next, left_stopped, put_next, put_stopped, refusing_none}
+use Rattle.engine_steps.specs.Steps.{ComesToEnd, Takes}
 use Rattle.engine_steps.proofs.TakingLaws.{more_so_far, takes_stopped}
 use Rattle.cmd_store.proofs.LineLaws.{lengths_next, lengths_within}
 use Rattle.cmd_merge.specs.MergeOutcome.{merge_output, merge_outputs}
@@ -69,6 +69,7 @@ pub returns-in_err-copy_entry-clause-crashes : goal.returns-in_err-copy_entry-cl
 returns-in_err-copy_entry-clause-crashes g c =
     let tells = g.met.S.Shelf.tells_held in
     let h0 = g.S.Shelf.held c.args.shelf.now in
+    let h1 = g.S.Shelf.held c.loop-i.shelf in
     let from = c.args.from.now in
     let to = c.args.to.now in
     let i = c.loop-i.i in
@@ -77,10 +78,16 @@ returns-in_err-copy_entry-clause-crashes g c =
     let part = c.as_str-part.result.now in
     let below : i < length c.args.plan.now = omega (arith, c.loop-i-test.true, c.loop-i.auto.i-end) in
     let part_is : part ≡ part_of out = c.as_str-part.ensures ∙ part_here c.args.plan.now i c.index-plan-i.result c.index-parts-i.result below c.index-plan-i.is (c.index-parts-i.is ∙ ap (λ (l : List (List ℕ)). get_or l i c.index-parts-i.result) c.requires.parts) ∙ ap part_of (sym c.as_str.ensures) in
-    put_stopped (merge_outputs from to) c.args.text i part out (bytes_at name) (bytes_at name) part_is (IsOk c.copy_entry.result) (IsOk c.from_residual.result) h0 (g.S.Shelf.held c.loop-i.shelf) (g.S.Shelf.held c.copy_entry.new.shelf) _ _ _
+    let p = err_from_is_err_and c.from_residual.result c.from_residual.ensures.1 in
+    let was : c.copy_entry.result ≡ Err p.0 = search rules in
+    let writes = λ (files : Files) (told : h0 ≡ Some files).
+    let now : h1 ≡ Some (after_outputs (take i (merge_outputs from to files)) files) = c.loop-i.invariant.held ∙ ap (option_map (λ f. after_outputs (take i (merge_outputs from to f)) f)) told in
+    let refuses_none : IfErr c.copy_entry.result RefusesNothing = when_told h1 _ c.copy_entry.ensures.writing (after_outputs (take i (merge_outputs from to files)) files) now in
+    rw was at refuses_none in
+    put_stopped (merge_outputs from to) c.args.text i part out (bytes_at name) (bytes_at name) part_is (IsOk c.copy_entry.result) (ComesToEnd c.from_residual.result) h0 (g.S.Shelf.held c.loop-i.shelf) (g.S.Shelf.held c.copy_entry.new.shelf) _ _ _
     (tells c.args.shelf.now) (tells c.loop-i.shelf) (tells c.copy_entry.new.shelf)
     (λ f known. next_fits from to i name out f (next_of from to c.args.plan.now i c.index-plan-i.result name out f (c.requires.plan f known) below c.index-plan-i.is c.as_str-name.ensures c.as_str.ensures) c.args.text part part_is)
-    (λ well. absurd (search rules)) (λ well. absurd (search rules)) c.loop-i.invariant.crashes c.copy_entry.ensures.crashes
+    (λ well. absurd (search rules)) (λ files told ends. refusing_none p.0 c.from_residual.result p.1 (writes files told) ends) c.loop-i.invariant.crashes c.copy_entry.ensures.crashes
 
 pub returns-in_err-copy_entry-clause-taken : goal.returns-in_err-copy_entry-clause-taken
 returns-in_err-copy_entry-clause-taken g c =

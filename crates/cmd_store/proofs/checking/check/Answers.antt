@@ -2,7 +2,7 @@ use Rattle.std.proofs.Common.{◌≡◌, ◌≤◌, Bool, true, false, refl, con
 use Rattle.std.specs.Int.{from_bool as bool_byte}
 use Rattle.std.proofs.lemmas.List.{get_or_read}
 use Rattle.std.proofs.lemmas.Result.{err_from_is_err_and}
-use Rattle.rip_outside.specs.Files.{Files, bytes_at}
+use Rattle.rip_outside.specs.Files.{bytes_at}
 use Rattle.rip_outside.proofs.FilesLaws.{if_told_both, when_told}
 use Rattle.rip_outside.proofs.ReadingLaws.{reads_twice}
 use Rattle.rip_inputs.specs.Opening.{lengths_of}

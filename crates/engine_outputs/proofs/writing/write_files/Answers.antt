@@ -12,7 +12,8 @@ use Rattle.image_mender.specs.Joined.{AreInFiles, joined_words, word_count}
 use Rattle.engine_steps.proofs.TakingLaws.{stopped_takes, takes_after}
 use Rattle.engine_outputs.specs.Writing.{RefusesNothing, image_outputs}
 use Rattle.engine_outputs.proofs.EachLaws.{apart_at, image_follow, image_fits, image_free, image_more, image_next, inside_at, outputs_many, part_at, sheet_fits, sheet_free}
-use Rattle.engine_outputs.proofs.OneMoreLaws.{all_left, all_put, held_next, left_stopped, put_next, put_stopped}
+use Rattle.engine_steps.specs.Steps.{ComesToEnd}
+use Rattle.engine_outputs.proofs.OneMoreLaws.{all_left, all_put, held_next, left_stopped, put_next, put_stopped, refusing_none}
 use Rattle.engine_outputs.proofs.writing.write_files.Goals as goal
 
 pub write_image-requires-clause-free : goal.write_image-requires-clause-free
@@ -91,10 +92,13 @@ returns-in_err-write_image-clause-crashes g c =
     let named : to ≡ get_or outs i to = c.as_str-to.ensures ∙ get_or_read outs i c.index-outs-i.result (omega (arith, c.requires.names)) c.index-outs-i.is to in
     let part_is : part ≡ part_of to = part_at outs c.args.parts.now i part c.index-parts-i.result to c.requires.parts (omega (arith, c.requires.names)) c.as_str-part.ensures c.index-parts-i.is named in
     let make : Files → List ℕ = λ files. wav_bytes (joined_words image files) in
-    put_stopped (image_outputs outs images sheet) c.args.text i part to make make part_is (IsOk c.write_image.result) (IsOk c.from_residual.result) h0 (g.S.Shelf.held c.loop-i.shelf) (g.S.Shelf.held c.write_image.new.shelf) _ _ _
+    let p = err_from_is_err_and c.from_residual.result c.from_residual.ensures.1 in
+    let is : c.write_image.result ≡ Err p.0 = search rules in
+    let refuses_none : IfErr c.write_image.result RefusesNothing = c.write_image.ensures.writing in
+    put_stopped (image_outputs outs images sheet) c.args.text i part to make make part_is (IsOk c.write_image.result) (ComesToEnd c.from_residual.result) h0 (g.S.Shelf.held c.loop-i.shelf) (g.S.Shelf.held c.write_image.new.shelf) _ _ _
     (tells c.args.shelf.now) (tells c.loop-i.shelf) (tells c.write_image.new.shelf)
     (λ files told. image_fits outs images sheet c.requires.names c.requires.distinct c.args.parts.now c.args.text i part to image files part_is below c.index-images-i.is named c.requires.parts c.requires.apart (c.requires.free files told) (c.requires.inside files told))
-    (λ well. absurd (search rules)) (λ well. absurd (search rules)) c.loop-i.invariant.crashes c.write_image.ensures.crashes
+    (λ well. absurd (search rules)) (λ files told ends. refusing_none p.0 c.from_residual.result p.1 (rw is at refuses_none) ends) c.loop-i.invariant.crashes c.write_image.ensures.crashes
 
 pub returns-in_err-write_image-clause-taken : goal.returns-in_err-write_image-clause-taken
 returns-in_err-write_image-clause-taken g c =
@@ -175,10 +179,13 @@ returns-in_err-write_sheet-clause-crashes g c =
     let end : c.loop-i.i ≡ length images = omega (arith, c.loop-i-test.false, c.loop-i.auto.i-end) in
     let named : to ≡ get_or outs (length images) to = c.as_str-sheet_to.ensures ∙ get_or_read outs (length images) c.index-outs-last.result (omega (arith, c.requires.names)) c.index-outs-last.is to in
     let part_is : part ≡ part_of to = part_at outs c.args.parts.now (length images) part c.index-parts-last.result to c.requires.parts (omega (arith, c.requires.names)) c.as_str-sheet_part.ensures c.index-parts-last.is named in
-    put_stopped (image_outputs outs images sheet) c.args.text (length images) part to (λ _. sheet) (λ _. sheet) part_is (IsOk c.write_sheet.result) (IsOk c.from_residual-in_err-write_sheet.result) h0 (g.S.Shelf.held c.loop-i.shelf) (g.S.Shelf.held c.write_sheet.new.shelf) _ _ _
+    let p = err_from_is_err_and c.from_residual-in_err-write_sheet.result c.from_residual-in_err-write_sheet.ensures.1 in
+    let is : c.write_sheet.result ≡ Err p.0 = search rules in
+    let refuses_none : IfErr c.write_sheet.result RefusesNothing = c.write_sheet.ensures.writing in
+    put_stopped (image_outputs outs images sheet) c.args.text (length images) part to (λ _. sheet) (λ _. sheet) part_is (IsOk c.write_sheet.result) (ComesToEnd c.from_residual-in_err-write_sheet.result) h0 (g.S.Shelf.held c.loop-i.shelf) (g.S.Shelf.held c.write_sheet.new.shelf) _ _ _
     (tells c.args.shelf.now) (tells c.loop-i.shelf) (tells c.write_sheet.new.shelf)
     (λ files told. sheet_fits outs images sheet c.requires.names c.requires.distinct c.args.parts.now c.args.text part to files part_is named)
-    (λ well. absurd (search rules)) (λ well. absurd (search rules)) (rw end at c.loop-i.invariant.crashes) c.write_sheet.ensures.crashes
+    (λ well. absurd (search rules)) (λ files told ends. refusing_none p.0 c.from_residual-in_err-write_sheet.result p.1 (rw is at refuses_none) ends) (rw end at c.loop-i.invariant.crashes) c.write_sheet.ensures.crashes
 
 pub returns-clause-leaves : goal.returns-clause-leaves
 returns-clause-leaves g c =

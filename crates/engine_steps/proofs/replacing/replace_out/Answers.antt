@@ -5,10 +5,11 @@ use Rattle.rip_outside.proofs.FilesLaws.{told_weaker}
 use Rattle.parity_store.specs.declared.storing.PutFail.TheVariants.{WriteFault}
 use Rattle.engine_steps.specs.Steps.{stop_of}
 use Rattle.rip_report.specs.declared.status.Status.TheVariants.{Done}
+use Rattle.engine_steps.specs.declared.steps.Answer.{Answer}
 use Rattle.engine_steps.specs.declared.steps.Stop.TheVariants.{WriteFault as WriteStop}
 use Rattle.engine_steps.proofs.Leaving.{leaves_name, put_done, put_stopped, stop_puts}
 use Rattle.std.specs.Prelude.{IsOk}
-use Rattle.engine_steps.proofs.CrashingLaws.{safe_put}
+use Rattle.engine_steps.proofs.CrashingLaws.{put_ends_none, safe_put}
 use Rattle.engine_steps.proofs.replacing.replace_out.Goals as goal
 
 pub returns-in-Ok-clause-leaves : goal.returns-in-Ok-clause-leaves
@@ -31,4 +32,4 @@ returns-in-Ok-clause-crashes g c =
     safe_put c.args.part.now c.args.out.now c.args.text (λ _. c.args.bytes.now) _ _ _ _ c.requires.part (λ _. well) c.replace.ensures.crashes
 
 pub returns-in-Err-clause-crashes : goal.returns-in-Err-clause-crashes
-returns-in-Err-clause-crashes g c = safe_put c.args.part.now c.args.out.now c.args.text (λ _. c.args.bytes.now) _ _ _ _ c.requires.part (λ well. absurd (search rules)) c.replace.ensures.crashes
+returns-in-Err-clause-crashes g c = safe_put c.args.part.now c.args.out.now c.args.text (λ _. c.args.bytes.now) _ _ _ _ c.requires.part (λ ends. absurd (put_ends_none {T = Answer} c.in-Err.fail (Err c.put_stop.result) (ap Err c.put_stop.ensures) ends)) c.replace.ensures.crashes
